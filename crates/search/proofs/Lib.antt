@@ -1,0 +1,3 @@
+pub mod Sides
+pub mod Way
+pub mod Cases

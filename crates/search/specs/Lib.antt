@@ -1,0 +1,4 @@
+pub mod Side
+pub mod Search
+pub mod Answer
+pub mod Way

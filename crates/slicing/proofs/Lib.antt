@@ -1,0 +1,3 @@
+pub mod Cut
+pub mod Rebasing
+pub mod Cases

@@ -1,0 +1,11 @@
+-- `slicing::noted` meets its contract: each return is one side of the test. Assumes nothing.
+use borrow.Author.Needs.{needs}
+use Prim.Native.Nat.{_-_}
+use Rattle.slicing.proofs.noted.Statement.{statement}
+use Rattle.slicing.proofs.noted.Tie as tie
+
+returns : tie.Need-returns
+returns c = rw (c .if1 .taken)
+
+pub noted-spec : {M : Type 1} → statement M
+noted-spec = tie.close (tie.spec returns (λ c. search needs))

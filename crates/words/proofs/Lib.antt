@@ -1,0 +1,4 @@
+pub mod Stores
+pub mod Runs
+pub mod Firsts
+pub mod Outcomes

@@ -1,0 +1,37 @@
+// What every other crate shares: a place that was found or not, words at wider types, and records of four words written.
+ghost use mathlib.Core.Path.{_≡_};
+ghost use mathlib.Core.List.{[], _∷_};
+ghost use Prim.Native.Nat.{_+_, _≤_};
+ghost use lib.ListN.{length};
+ghost use Rattle.words.specs.Words.{Widened, put};
+
+// The first place for which a test holds, or nothing.
+pub enum Found {
+    At(usize),
+    Nothing,
+}
+
+// A 16-bit word as an index.
+pub fn wide(x: u16) -> usize
+    ensures { λ r. ⌜ Widened x r ⌝ }
+{
+    x as usize
+}
+
+// A 16-bit word in 64 bits, where a sum of it with a 32-bit number always fits.
+pub fn wide64(x: u16) -> u64
+    ensures { λ r. ⌜ Widened x r ⌝ }
+{
+    x as u64
+}
+
+// Four words from an offset on.
+pub fn put_record(out: &mut [u16], at: usize, id: u16, start: u16, end: u16, last: u16)
+    requires { ⌜ at + 4 ≤ length (now out) ⌝ }
+    ensures { λ _. ⌜ now (out .exit) ≡ put (now (out .entry)) at (id ∷ start ∷ end ∷ last ∷ []) ⌝ }
+{
+    out[at] = id;
+    out[at + 1] = start;
+    out[at + 2] = end;
+    out[at + 3] = last;
+}
