@@ -2,3 +2,4 @@ pub mod Outcome
 pub mod Words
 pub mod First
 pub mod Answer
+pub mod Told
