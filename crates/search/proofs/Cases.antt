@@ -30,7 +30,7 @@ linked w types from to counts ok l m h = record {
     at-record : (at : ℕ) → at % 4 ≡ 0 → at / 4 * 4 ≡ at
     at-record at z = omega arith
 
-    sound : (at : ℕ) → at % 4 ≡ 0 → at < length w → Sound w (at / 4)
+    sound : (at : ℕ) → at % 4 ≡ 0 → at < length w → Sound w types (at / 4)
     sound at z k = part-sound w types counts ok (at / 4) (omega arith)
 
 module _ (w : List ℕ) (types from to : ℕ) (direction : ℤ) (position base : ℕ) (side : ℤ) where

@@ -101,16 +101,16 @@ fn find_buffer_child(
     requires { ⌜ Linked (now words) from to ⌝ }
     ensures { λ r. ⌜ place-found r ≡ child (now (words .entry)) from to direction position base side ⌝ }
 {
-    let mut at = from;
+    let mut index = from;
     let mut found = Found::Nothing;
-    while at < to {
-        if matches(words, at, position, base, side) {
+    while index < to {
+        if matches(words, index, position, base, side) {
             if direction > 0 {
-                return Found::At(at);
+                return Found::At(index);
             }
-            found = Found::At(at);
+            found = Found::At(index);
         }
-        at = words::wide(words[at + 3]);
+        index = words::wide(words[index + 3]);
     }
     found
 }

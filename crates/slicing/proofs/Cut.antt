@@ -52,14 +52,23 @@ module _ (cut : List ℕ) (from to base : ℕ) where
       go none e = e
       go (some i) e = absurd (never 23 (from + i * 4) counts (rw e at h))
 
+  -- nor one that ends past the cut
+  pub cut-not-far : (counts : List ℕ) → cut-check cut from to base ≡ accepted counts → outside cut to ≡ none
+  unfolding cut-check
+  cut-not-far counts h = go (outside cut to) refl
+    where
+      go : (o : Option ℕ) → outside cut to ≡ o → outside cut to ≡ none
+      go none e = e
+      go (some i) e = absurd (never 19 (from + i * 4) counts (rw (cut-not-low counts h, e) at h))
+
 module _ (w : List ℕ) (types from to : ℕ) (counts : List ℕ) (ok : part-check w types ≡ accepted counts) (a : from ≤ to) (b : to ≤ length w) (m : from % 4 ≡ 0) where
   -- word k of record i of the cut is that of record from / 4 + i of the part
-  cut-word : (i k : ℕ) → k < 4 → i < length (run w from to) / 4 → getD (run w from to) (i * 4 + k) 0 ≡ getD w ((from / 4 + i) * 4 + k) 0
+  pub cut-word : (i k : ℕ) → k < 4 → i < length (run w from to) / 4 → getD (run w from to) (i * 4 + k) 0 ≡ getD w ((from / 4 + i) * 4 + k) 0
   cut-word i k s l =
       let e : from + (i * 4 + k) ≡ (from / 4 + i) * 4 + k = omega arith in
       run-word w from to a b (i * 4 + k) (omega (arith, run-length w from to a b)) ∙ ap (λ (j : ℕ). getD w j 0) e
 
-  cut-sound : (i : ℕ) → i < length (run w from to) / 4 → Sound w (from / 4 + i)
+  cut-sound : (i : ℕ) → i < length (run w from to) / 4 → Sound w types (from / 4 + i)
   cut-sound i l = part-sound w types counts ok (from / 4 + i) (omega (arith, run-length w from to a b))
 
   pub rebasable : (base room : ℕ) → below (run w from to) base ≡ none → to - from ≤ room → Rebasable (run w from to) from base room

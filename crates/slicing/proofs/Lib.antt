@@ -1,3 +1,4 @@
 pub mod Cut
 pub mod Rebasing
 pub mod Cases
+pub mod Passing

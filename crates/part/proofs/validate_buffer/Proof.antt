@@ -32,7 +32,7 @@ module _ (c : tie.Else1 Inv-loop μ-loop) where
   own-at : own-fault w₁ (c .before .before .before .before .before .before .args .types) i₁ ≡ 0
   own-at = sym (c .before .own-fault .ensures) ∙ c .if1 .left
 
-  sound-at : Sound w₁ i₁
+  sound-at : Sound w₁ (c .before .before .before .before .before .before .args .types) i₁
   sound-at = own-sound w₁ (c .before .before .before .before .before .before .args .types) i₁ own-at
 
 few-at : (c : tie.After-shared-slice-known2 Inv-loop μ-loop) → i₁ (c .before) < 16383

@@ -24,18 +24,18 @@ use Rattle.search.proofs.find_buffer_child.Statement.{statement}
 use Rattle.search.proofs.find_buffer_child.Tie as tie
 
 abbrev Inv-loop : tie.InvT-loop
-Inv-loop words from to direction position base side at₀ found₀ at found = (f : ℕ) × Ahead words to at f × (choose (matching words position base (toZ w8 side)) (ltZ (pos 0) (toZ w8 direction)) none (way-to words from to) ≡ choose (matching words position base (toZ w8 side)) (ltZ (pos 0) (toZ w8 direction)) (place-found found) (way words f at to))
+Inv-loop words from to direction position base side index₀ found₀ index found = (f : ℕ) × Ahead words to index f × (choose (matching words position base (toZ w8 side)) (ltZ (pos 0) (toZ w8 direction)) none (way-to words from to) ≡ choose (matching words position base (toZ w8 side)) (ltZ (pos 0) (toZ w8 direction)) (place-found found) (way words f index to))
 
 abbrev μ-loop : tie.MeasureT-loop
-μ-loop words from to direction position base side at₀ found₀ at found = length words - at
+μ-loop words from to direction position base side index₀ found₀ index found = length words - index
 
--- at a turn: the end indices can be followed, and the record at `at` can be read
+-- at a turn: the end indices can be followed, and the record at the index can be read
 module _ (i : tie.In-loop Inv-loop μ-loop) where
   abbrev w₁ : List ℕ
   w₁ = now (i .before .before .before .args .words)
 
   abbrev a₁ : ℕ
-  a₁ = i .before .loop .at
+  a₁ = i .before .loop .index
 
   abbrev f₁ : ℕ
   f₁ = i .before .loop .inv .0
@@ -112,7 +112,7 @@ returns-2 c =
     let s = c .before .before .before in
     let forward = ltZ (pos 0) (toZ w8 (ofZ w8 (s .args .direction))) in
     let test = matching (now (s .args .words)) (s .args .position) (s .args .base) (toZ w8 (ofZ w8 (s .args .side))) in
-    sym (child-at s ∙ c .before .loop .inv .2 ∙ ap (choose test forward (place-found (c .before .loop .found))) (way-stop (now (s .args .words)) (c .before .loop .inv .0) (c .before .loop .at) (s .args .to) (c .loop-test .left)) ∙ choose-none test forward _)
+    sym (child-at s ∙ c .before .loop .inv .2 ∙ ap (choose test forward (place-found (c .before .loop .found))) (way-stop (now (s .args .words)) (c .before .loop .inv .0) (c .before .loop .index) (s .args .to) (c .loop-test .left)) ∙ choose-none test forward _)
 
 pub find-buffer-child-spec : {M : Type 1} → statement M
 find-buffer-child-spec =

@@ -1,0 +1,154 @@
+//! The differential driver of the part calls: library, model and Rust on the same inputs.
+
+mod bench;
+mod cases;
+mod compare;
+mod model;
+mod oracle;
+mod ours;
+mod record;
+mod rng;
+mod shim;
+mod short;
+mod tally;
+
+// The names that the Rust sources expect at the root of their crate.
+pub use oracle::parse::Parser;
+pub use oracle::prop::NodeProp;
+pub use oracle::tree::{MountedTree, NodeType, Tree};
+pub use oracle::{parse, prop, tree};
+pub use shim::{TextRange, TextSize};
+
+use std::path::PathBuf;
+use std::process::ExitCode;
+use std::time::Instant;
+
+use cases::{MOST_RECORDS, Nesting};
+use compare::Session;
+use rng::Rng;
+
+struct Options {
+    command: String,
+    seed: u64,
+    /// Random cases are made until this many cases have been compared in all.
+    cases: u64,
+    into: PathBuf,
+}
+
+fn options() -> Result<Options, String> {
+    let mut words = std::env::args().skip(1);
+    let mut options = Options {
+        command: words.next().ok_or("a command is missing")?,
+        seed: 1,
+        cases: 6_000_000,
+        into: PathBuf::from("crates/part_vectors"),
+    };
+    while let Some(word) = words.next() {
+        let value = words.next().ok_or(format!("{word} wants a value"))?;
+        let number = || value.parse().map_err(|_| format!("{word} wants a number"));
+        match word.as_str() {
+            "--seed" => options.seed = number()?,
+            "--cases" => options.cases = number()?,
+            "--into" => options.into = PathBuf::from(value),
+            _ => return Err(format!("unknown option {word}")),
+        }
+    }
+    Ok(options)
+}
+
+fn main() -> ExitCode {
+    let options = match options() {
+        Ok(options) => options,
+        Err(text) => {
+            eprintln!("{text}");
+            return ExitCode::from(2);
+        }
+    };
+    oracle::silence_expected_panics();
+    match options.command.as_str() {
+        "parts" => parts(&options),
+        "bench-parts" => bench::run(options.seed),
+        "record-parts" => record::run(options.seed, &options.into),
+        other => {
+            eprintln!("unknown command {other}");
+            ExitCode::from(2)
+        }
+    }
+}
+
+fn parts(options: &Options) -> ExitCode {
+    println!("seed {}, cases {} or more", options.seed, options.cases);
+    let mut session = Session::default();
+    let mut rng = Rng::new(options.seed);
+    timed(&mut session, "short parts, all of them", short::run);
+    timed(&mut session, "long parts", |session| {
+        long(session, &mut rng)
+    });
+    let all = options.cases;
+    timed(&mut session, "random and damaged parts", |session| {
+        while session.tally.cases() < all {
+            random(session, &mut rng);
+        }
+    });
+    session.tally.print();
+    if session.tally.unexplained() > 0 {
+        return ExitCode::FAILURE;
+    }
+    ExitCode::SUCCESS
+}
+
+fn timed(session: &mut Session, what: &str, work: impl FnOnce(&mut Session)) {
+    let (before, start) = (session.tally.cases(), Instant::now());
+    work(session);
+    let cases = session.tally.cases() - before;
+    println!(
+        "{what}: {cases} cases, {:.1} s",
+        start.elapsed().as_secs_f64()
+    );
+}
+
+/// Parts at and above the most records that end indices of 16 bits allow.
+fn long(session: &mut Session, rng: &mut Rng) {
+    let nestings = [
+        Nesting::Flat,
+        Nesting::Chain,
+        Nesting::Mixed(8),
+        Nesting::Mixed(12),
+    ];
+    for nesting in nestings {
+        for records in [
+            MOST_RECORDS - 1,
+            MOST_RECORDS,
+            MOST_RECORDS + 1,
+            MOST_RECORDS + 70,
+        ] {
+            let words = cases::good_part(rng, 300, records, nesting, 65_535);
+            let part = session.part(300, words);
+            cases::calls(session, rng, &part, 60);
+            let words = cases::damaged(rng, 300, &part.words);
+            let part = session.part(300, words);
+            cases::calls(session, rng, &part, 4);
+        }
+    }
+}
+
+/// One random part with calls on it, then damaged copies with a few calls each.
+fn random(session: &mut Session, rng: &mut Rng) {
+    let types = rng.pick(&[1, 2, 5, 300, 65_535, 65_536]);
+    let most = rng.pick(&[4, 12, 40, 40, 120, 400]);
+    let records = rng.below(most + 1);
+    let widest = rng.pick(&[3, 20, 1_000, 65_535]);
+    let nesting = cases::any_nesting(rng);
+    let words = cases::good_part(rng, types, records, nesting, widest);
+    let part = session.part(types, words);
+    cases::calls(session, rng, &part, 60);
+    if records <= 40 {
+        cases::sweep(session, rng, &part);
+    }
+    for _ in 0..10 {
+        let bad_types = rng.pick(&[types, types, types, types, types, types + 1, 0, u32::MAX]);
+        let words = cases::damaged(rng, types, &part.words);
+        let copy = session.part(bad_types, words);
+        cases::calls(session, rng, &copy, 4);
+    }
+}

@@ -1,0 +1,257 @@
+//! Document 01's three part calls, read word for word and computed in the plainest way.
+//!
+//! Nothing here is fast or shared with the library: 20 looks at all earlier records, a cut is rebased first and then
+//! looked at as a part of its own, and the way of a search is collected before it is used.
+
+/// What a call answers. Refused: the number, the place, counts 0. Accepted: number 0, place 0 and the counts.
+#[derive(Clone, Copy, Debug, Eq, PartialEq)]
+pub struct Answer {
+    pub number: u32,
+    pub place: u64,
+    pub counts: [u64; 2],
+}
+
+#[derive(Clone, Copy, Debug)]
+pub struct Slice {
+    pub from: usize,
+    pub to: usize,
+    pub base: u32,
+    /// Words in the output slice.
+    pub room: usize,
+}
+
+#[derive(Clone, Copy, Debug)]
+pub struct Search {
+    pub from: usize,
+    pub to: usize,
+    pub direction: i8,
+    pub position: u32,
+    pub base: u32,
+    pub side: i8,
+}
+
+const LAST: u64 = 4_294_967_295;
+
+fn refused(number: u32, place: usize) -> Answer {
+    Answer {
+        number,
+        place: place as u64,
+        counts: [0, 0],
+    }
+}
+
+fn accepted(first: usize, second: u64) -> Answer {
+    Answer {
+        number: 0,
+        place: 0,
+        counts: [first as u64, second],
+    }
+}
+
+struct Record {
+    id: u64,
+    start: u64,
+    end: u64,
+    index: u64,
+}
+
+fn record(words: &[u16], offset: usize) -> Record {
+    Record {
+        id: u64::from(words[offset]),
+        start: u64::from(words[offset + 1]),
+        end: u64::from(words[offset + 2]),
+        index: u64::from(words[offset + 3]),
+    }
+}
+
+/// 19 for a record at an offset of a part of so many words.
+fn index_is_bad(index: u64, offset: usize, words: usize) -> bool {
+    index < offset as u64 + 4 || index > words as u64 || index % 4 != 0
+}
+
+/// 20: some earlier record whose end index lies past this offset encloses it, and this end index is above that one.
+fn leaves_an_enclosing_record(words: &[u16], offset: usize, index: u64) -> bool {
+    (0..offset / 4).any(|earlier| {
+        let around = u64::from(words[earlier * 4 + 3]);
+        around > offset as u64 && index > around
+    })
+}
+
+/// The first of 17 to 20 that the record at an offset draws, or 0.
+fn fault(types: u32, words: &[u16], offset: usize) -> u32 {
+    let it = record(words, offset);
+    if it.id >= u64::from(types) {
+        17
+    } else if it.start > it.end {
+        18
+    } else if index_is_bad(it.index, offset, words.len()) {
+        19
+    } else if leaves_an_enclosing_record(words, offset, it.index) {
+        20
+    } else {
+        0
+    }
+}
+
+/// The part check: 1, 16, then 17 to 20 record by record. Count: records.
+pub fn check(types: u32, words: &[u16]) -> Answer {
+    if types > 65_536 {
+        return refused(1, 0);
+    }
+    if words.len() % 4 != 0 {
+        return refused(16, 0);
+    }
+    for offset in (0..words.len()).step_by(4) {
+        let number = fault(types, words, offset);
+        if number != 0 {
+            return refused(number, offset);
+        }
+    }
+    accepted(words.len() / 4, 0)
+}
+
+/// 21, then 22, on the bounds of a part of so many words.
+fn bounds(from: usize, to: usize, words: usize) -> Option<Answer> {
+    if from > to || from > words || to > words {
+        return Some(refused(21, 0));
+    }
+    if from % 4 != 0 || to % 4 != 0 {
+        return Some(refused(22, 0));
+    }
+    None
+}
+
+/// Slicing, after the part check's answer for the same words. Counts: words and length. Answers also what stands in
+/// the output slice afterwards, which held `before`.
+pub fn slice(verdict: Answer, words: &[u16], call: &Slice, before: &[u16]) -> (Answer, Vec<u16>) {
+    match sliced(verdict, words, call, before.len()) {
+        Err(answer) => (answer, before.to_vec()),
+        Ok((answer, mut out)) => {
+            let written = out.len();
+            out.extend_from_slice(&before[written..]);
+            (answer, out)
+        }
+    }
+}
+
+fn sliced(
+    verdict: Answer,
+    words: &[u16],
+    call: &Slice,
+    room: usize,
+) -> Result<(Answer, Vec<u16>), Answer> {
+    if verdict.number != 0 {
+        return Err(verdict);
+    }
+    if let Some(answer) = bounds(call.from, call.to, words.len()) {
+        return Err(answer);
+    }
+    let offsets = || (call.from..call.to).step_by(4);
+    if let Some(offset) = offsets().find(|&at| u64::from(call.base) > record(words, at).start) {
+        return Err(refused(23, offset));
+    }
+    let cut = rebased(words, call);
+    let bad = |at: &usize| index_is_bad(cut[at - call.from + 3], at - call.from, cut.len());
+    if let Some(offset) = offsets().find(bad) {
+        return Err(refused(19, offset));
+    }
+    if room < cut.len() {
+        return Err(refused(13, 0));
+    }
+    let length = cut.chunks(4).map(|it| it[2]).max().unwrap_or(0);
+    let out = cut.iter().map(|&word| word as u16).collect();
+    Ok((accepted(cut.len(), length), out))
+}
+
+/// The cut with the base taken from starts and ends, and the first bound from end indices.
+fn rebased(words: &[u16], call: &Slice) -> Vec<u64> {
+    let mut cut = Vec::new();
+    for offset in (call.from..call.to).step_by(4) {
+        let it = record(words, offset);
+        let base = u64::from(call.base);
+        cut.extend([
+            it.id,
+            it.start - base,
+            it.end - base,
+            it.index - call.from as u64,
+        ]);
+    }
+    cut
+}
+
+/// The offsets met by following end indices from one bound up to the other, if it is ever met. Without a second bound,
+/// all up to the part's end.
+fn way(words: &[u16], from: usize, to: Option<usize>) -> Option<Vec<usize>> {
+    let mut met = Vec::new();
+    let mut at = from;
+    while Some(at) != to {
+        if at >= words.len() {
+            return to.is_none().then_some(met);
+        }
+        met.push(at);
+        at = words[at + 3] as usize;
+    }
+    Some(met)
+}
+
+/// Whether a record counted from the base is on the given side of a position.
+fn on_side(words: &[u16], at: usize, call: &Search) -> bool {
+    let it = record(words, at);
+    let position = u64::from(call.position);
+    let starts = u64::from(call.base) + it.start;
+    let ends = u64::from(call.base) + it.end;
+    match call.side {
+        -2 => starts < position,
+        -1 => starts < position && position <= ends,
+        0 => starts < position && position < ends,
+        1 => starts <= position && position < ends,
+        2 => position < ends,
+        4 => true,
+        _ => false,
+    }
+}
+
+/// Searching, after the part check's answer for the same words. Counts: 1 and the match's offset, or 0 and 0.
+pub fn search(verdict: Answer, words: &[u16], call: &Search) -> Answer {
+    if verdict.number != 0 {
+        return verdict;
+    }
+    if let Some(answer) = bounds(call.from, call.to, words.len()) {
+        return answer;
+    }
+    let Some(met) = way(words, call.from, Some(call.to)) else {
+        return refused(24, 0);
+    };
+    let past = |at: usize| u64::from(call.base) + record(words, at).end > LAST;
+    if let Some(&offset) = met.iter().find(|&&at| past(at)) {
+        return refused(25, offset);
+    }
+    let matching: Vec<usize> = met
+        .into_iter()
+        .filter(|&at| on_side(words, at, call))
+        .collect();
+    let chosen = if call.direction > 0 {
+        matching.first()
+    } else {
+        matching.last()
+    };
+    match chosen {
+        Some(&offset) => accepted(1, offset as u64),
+        None => accepted(0, 0),
+    }
+}
+
+/// Where the Rust, which looks no further than a first match, stops on a way that document 01 refuses (24 or 25):
+/// the first match going forward, if no record up to it ends past 32 bits.
+pub fn early_match(words: &[u16], call: &Search) -> Option<usize> {
+    if call.direction <= 0 {
+        return None;
+    }
+    let met = way(words, call.from, None)?;
+    let first = met.iter().position(|&at| on_side(words, at, call))?;
+    let fits = |at: usize| u64::from(call.base) + record(words, at).end <= LAST;
+    met[..=first]
+        .iter()
+        .all(|&at| fits(at))
+        .then_some(met[first])
+}

@@ -1,0 +1,186 @@
+//! Counts of what was compared, and the tables printed at the end.
+
+use std::collections::BTreeMap;
+
+use crate::model::{Search, Slice};
+
+#[derive(Clone, Copy, Debug)]
+pub enum Call {
+    Check,
+    Slice(Slice),
+    Search(Search),
+}
+
+impl Call {
+    pub fn name(&self) -> &'static str {
+        match self {
+            Call::Check => "check",
+            Call::Slice(_) => "slice",
+            Call::Search(_) => "search",
+        }
+    }
+}
+
+/// One case: a call on a part under a number of types.
+pub struct Case<'a> {
+    pub types: u32,
+    pub words: &'a [u16],
+    pub call: Call,
+}
+
+impl Case<'_> {
+    pub fn describe(&self) -> String {
+        let call = match self.call {
+            Call::Check => String::from("check"),
+            Call::Slice(c) => format!(
+                "slice {} to {}, base {}, room {}",
+                c.from, c.to, c.base, c.room
+            ),
+            Call::Search(c) => format!(
+                "search {} to {}, direction {}, position {}, base {}, side {}",
+                c.from, c.to, c.direction, c.position, c.base, c.side
+            ),
+        };
+        format!("{call}, T {}, words {}", self.types, shortened(self.words))
+    }
+
+    /// How small an input is: by its words first, then by the size of its numbers.
+    fn weight(&self) -> (usize, u128) {
+        let numbers: u128 = match self.call {
+            Call::Check => 0,
+            Call::Slice(c) => sum(&[c.from as u64, c.to as u64, c.base.into(), c.room as u64]),
+            Call::Search(c) => {
+                let signs = [c.direction.unsigned_abs(), c.side.unsigned_abs()];
+                sum(&[c.from as u64, c.to as u64, c.base.into(), c.position.into()])
+                    + sum(&signs.map(u64::from))
+            }
+        };
+        let words: u128 = self.words.iter().map(|&word| u128::from(word)).sum();
+        (self.words.len(), numbers + words + u128::from(self.types))
+    }
+}
+
+fn sum(numbers: &[u64]) -> u128 {
+    numbers.iter().map(|&number| u128::from(number)).sum()
+}
+
+fn shortened(words: &[u16]) -> String {
+    if words.len() <= 64 {
+        return format!("{words:?}");
+    }
+    format!("{:?} and {} more", &words[..64], words.len() - 64)
+}
+
+/// How a case compared with the Rust.
+#[derive(Clone, Copy, Debug, Eq, Ord, PartialEq, PartialOrd)]
+pub enum Outcome {
+    /// Accepted, and the Rust answers the same.
+    Same,
+    /// Refused, and the Rust panics.
+    Panics,
+    /// Refused, and the Rust answers or is not asked: one of the differences that document 01 intends.
+    Intended(&'static str),
+}
+
+#[derive(Default)]
+struct Row {
+    cases: u64,
+    same: u64,
+    panics: u64,
+    intended: u64,
+}
+
+struct Class {
+    cases: u64,
+    weight: (usize, u128),
+    smallest: String,
+}
+
+#[derive(Default)]
+pub struct Tally {
+    rows: BTreeMap<(&'static str, u32), Row>,
+    classes: BTreeMap<&'static str, Class>,
+    unexplained: u64,
+    shown: Vec<String>,
+}
+
+/// How many unexplained differences are printed in full.
+const SHOWN: usize = 10;
+
+impl Tally {
+    pub fn count(&mut self, case: &Case, number: u32, outcome: Outcome) {
+        let row = self.rows.entry((case.call.name(), number)).or_default();
+        row.cases += 1;
+        match outcome {
+            Outcome::Same => row.same += 1,
+            Outcome::Panics => row.panics += 1,
+            Outcome::Intended(class) => {
+                row.intended += 1;
+                self.count_class(class, case);
+            }
+        }
+    }
+
+    fn count_class(&mut self, name: &'static str, case: &Case) {
+        let weight = case.weight();
+        let class = self.classes.entry(name).or_insert_with(|| Class {
+            cases: 0,
+            weight: (usize::MAX, 0),
+            smallest: String::new(),
+        });
+        class.cases += 1;
+        if weight < class.weight {
+            class.weight = weight;
+            class.smallest = case.describe();
+        }
+    }
+
+    /// A case on which two of library, model and Rust differ in a way that nothing explains.
+    pub fn differ(&mut self, case: &Case, what: &str) {
+        self.rows
+            .entry((case.call.name(), u32::MAX))
+            .or_default()
+            .cases += 1;
+        self.unexplained += 1;
+        if self.shown.len() < SHOWN {
+            self.shown.push(format!("{}: {what}", case.describe()));
+        }
+    }
+
+    pub fn cases(&self) -> u64 {
+        self.rows.values().map(|row| row.cases).sum()
+    }
+
+    pub fn unexplained(&self) -> u64 {
+        self.unexplained
+    }
+
+    pub fn print(&self) {
+        println!(
+            "{:8}{:>8}{:>12}{:>12}{:>12}{:>12}",
+            "call", "number", "cases", "agreements", "panics", "intended"
+        );
+        for ((call, number), row) in &self.rows {
+            let number = match number {
+                &u32::MAX => String::from("differs"),
+                number => number.to_string(),
+            };
+            println!(
+                "{call:8}{number:>8}{:>12}{:>12}{:>12}{:>12}",
+                row.cases, row.same, row.panics, row.intended
+            );
+        }
+        println!("{:16}{:>12}", "all", self.cases());
+        println!("intended differences:");
+        for (name, class) in &self.classes {
+            println!(
+                "  {name}: {}\n    smallest: {}",
+                class.cases, class.smallest
+            );
+        }
+        for text in &self.shown {
+            println!("unexplained: {text}");
+        }
+        println!("unexplained differences: {}", self.unexplained);
+    }
+}
