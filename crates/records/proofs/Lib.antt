@@ -1,0 +1,13 @@
+pub mod ParseLaws
+pub mod AcceptLaws
+pub mod Spelling
+pub mod Faults
+pub mod Progress
+pub mod Order
+pub mod Stack
+pub mod Scanning
+pub mod Judging
+pub mod Ranges
+pub mod Lowest
+pub mod Answers
+pub mod Crossing

@@ -1,0 +1,5 @@
+pub mod Forest
+pub mod Parse
+pub mod Check
+pub mod Answer
+pub mod Taking
