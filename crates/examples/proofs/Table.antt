@@ -9,6 +9,7 @@ use Rattle.slicing.specs.Slice.{cut-check, rebased, largest-end, sliced, slice-
 use Rattle.records.specs.Forest.{count, behind, line, below, reading}
 use Rattle.records.specs.Parse.{nearest, farther, parse-from, parse}
 use Rattle.records.specs.Check as list
+use Rattle.tree.proofs.Table as trees
 
 -- T 4, F 4, S 0, top 0: "records P = (1,0,2,4) (2,3,5,4) (3,0,6,12)"
 abbrev P : List ℕ
@@ -52,6 +53,6 @@ slices : Slices
 unfolding first-from part-check faults-from fault own-fault crosses cut-check rebased largest-end sliced slice-outcome slice-part
 slices = (refl, refl, refl)
 
--- the whole table
-pub table : Lists × Slices
-table = (lists, slices)
+-- The whole table; the rows about builds, listings and balancing stand beside the definitions that they are computed from.
+pub table : Lists × trees.Examples × Slices
+table = (lists, trees.table, slices)

@@ -1,0 +1,38 @@
+-- Demand 3. Two runs, each with its own type count, length bound, top id, given length and accepted list nested at most
+-- 2,503 levels, and with the same first repeat id F and build start S. By the theorem on trees and the laws of cells.
+-- Assumes nothing.
+use mathlib.Core.Path.{_≡_, sym, ap, ap₂, _∙_}
+use mathlib.Core.Logic.{_↔_}
+use mathlib.Core.List.{List}
+use Prim.Native.Nat.{ℕ, _≤_}
+use Rattle.records.specs.Parse.{parse}
+use Rattle.records.proofs.AcceptLaws.{accepted-nested}
+use Rattle.tree.specs.Calls.{Written, materialise-cells, list-cells}
+use Rattle.tree.specs.Run.{Run, built, materialised, listed, read}
+use Rattle.tree.proofs.BuiltReading.{lines-are-reading}
+use Rattle.tree.proofs.KeptLaws.{cells-give-lines}
+
+module _ (F S : ℕ) (fits : S ≤ 4294967295) where
+  -- each listing is the reading of its own list
+  pub one-run : (r : Run F S) → listed F S r ≡ read F S r
+  unfolding listed materialised built read
+  one-run r =
+      let n = accepted-nested (r .types) (r .bound) (r .top) S (r .records) (r .accepted) fits in
+      cells-give-lines (r .types) F (r .bound) S (r .top) (r .given) (r .records) fits (r .accepted)
+      ∙ lines-are-reading (r .types) F (r .bound) S (r .top) (r .given) (parse (r .records)) 4294967295 n (r .nested)
+
+  -- the same cells and packed words give the same lines
+  same-built : (A B : Run F S) → (built F S A) .cells ≡ (built F S B) .cells → (built F S A) .words ≡ (built F S B) .words → listed F S A ≡ listed F S B
+  unfolding listed materialised
+  same-built A B c w = ap (list-cells F S) (ap₂ materialise-cells c w)
+
+  -- Two runs: each listing is the reading of its own list; the lines are the same exactly when the readings are; and
+  -- where the readings differ, the cells and packed words that the builds wrote are not the same.
+  pub two-runs : (A B : Run F S)
+      → (listed F S A ≡ read F S A) × (listed F S B ≡ read F S B)
+      × ((listed F S A ≡ listed F S B) ↔ (read F S A ≡ read F S B))
+      × ((read F S A ≡ read F S B → ⊥) → ((built F S A) .cells ≡ (built F S B) .cells) × ((built F S A) .words ≡ (built F S B) .words) → ⊥)
+  two-runs A B =
+      let one = one-run A in
+      let two = one-run B in
+      (one, two, (λ e. sym one ∙ (e ∙ two), λ e. one ∙ (e ∙ sym two)), λ differ same. differ (sym one ∙ (same-built A B (same .0) (same .1) ∙ two)))

@@ -1,0 +1,12 @@
+pub mod Trees
+pub mod Items
+pub mod Pack
+pub mod Balance
+pub mod Groups
+pub mod Flat
+pub mod Build
+pub mod Materialise
+pub mod Listing
+pub mod Cells
+pub mod Calls
+pub mod Run

@@ -1,0 +1,27 @@
+-- Listing: "it leaves out the top, repeat ids and kind 3; its lines, in cell order, are depth (listed nodes around it),
+-- id, absolute start and absolute end".
+use mathlib.Core.List.{List, [], _++_}
+use mathlib.Core.Option.{Option, none, some}
+use Prim.Native.Nat.{ℕ, _+_}
+use Rattle.records.specs.Forest.{line, below}
+use Rattle.tree.specs.Trees.{Trees, nil, tree, part, kids-of}
+
+-- a tree's own line at depth d, by its type
+unfoldable pub tline : (F d : ℕ) (type : Option ℕ) (s e : ℕ) → List ℕ
+tline F d none s e = []
+tline F d (some i) s e = line F d i s e
+
+-- the depth of its children
+unfoldable pub tbelow : (F d : ℕ) (type : Option ℕ) → ℕ
+tbelow F d none = d
+tbelow F d (some i) = below F d i
+
+-- the lines of siblings at depth d: "Listing takes a tree without kind 2"
+unfoldable pub listing : (F d : ℕ) → Trees → List ℕ
+listing F d nil = []
+listing F d (tree t s l kids rest) = (tline F d t s (s + l) ++ listing F (tbelow F d t) kids) ++ listing F d rest
+listing F d (part s l ws rest) = listing F d rest
+
+-- the lines of a whole tree
+unfoldable pub lines : (F : ℕ) → Trees → List ℕ
+lines F t = listing F 0 (kids-of t)

@@ -1,0 +1,1 @@
+// The build and the tree calls: definitions in specs/, their laws and the two-run theorem in proofs/.
