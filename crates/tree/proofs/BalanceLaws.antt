@@ -8,7 +8,7 @@ use Prim.Native.Nat.{ℕ, zero, suc, _+_, _≤_, _<_}
 use native.Mathlib.Omega.{arith}
 use lib.Dec.{T, ltb, ltb→lt, eqb→eq, eqb-refl}
 use Rattle.tree.specs.Trees.{Trees, nil, tree, part, _⊕_, kids-of}
-use Rattle.tree.specs.Listing.{tline, tbelow}
+use Rattle.tree.specs.Listing.{node-line, node-below}
 use Rattle.tree.specs.Balance.{same-type, all-of, total, share, grows, groups-from, groups, lone, is-tree, joined, placed, each, divide, balance}
 use Rattle.tree.proofs.ListingLaws.{⊕-assoc, view, view-⊕, view-nil, view-tree}
 use Rattle.tree.proofs.PackLaws.{line-repeat, below-repeat}
@@ -20,7 +20,7 @@ Hidden F (some i) = ltb i F ≡ false
 
 pub view-hidden : (F d : ℕ) (t : Option ℕ) (s l : ℕ) (kids rest : Trees) → Hidden F t
     → view F d (tree t s l kids rest) ≡ view F d kids ++ view F d rest
-unfolding tline tbelow
+unfolding node-line node-below
 view-hidden F d none s l kids rest h = view-tree F d none s l kids rest
 view-hidden F d (some i) s l kids rest h =
     rw (view-tree F d (some i) s l kids rest, line-repeat F d i s (s + l) h, below-repeat F d i h)

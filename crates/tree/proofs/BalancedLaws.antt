@@ -2,28 +2,28 @@
 -- id, range, order and depth, packed words and the cell rules stay. Nine or more children never end as one, so the top
 -- is never taken away. Assumes nothing.
 use mathlib.Core.Path.{_≡_, refl, sym, ap, subst, _∙_}
-use mathlib.Core.Bool.{Bool, true, false, _&&_, true≢false}
+use mathlib.Core.Bool.{Bool, true, false, _&&_}
 use mathlib.Core.List.{List, [], _∷_, _++_, append-nil}
 use mathlib.Core.Option.{Option, none, some}
 use Prim.Native.Nat.{ℕ, zero, suc, _+_, _-_, _*_, _≤_, _<_}
 use native.Mathlib.Decide.{decLe}
 use native.Mathlib.Omega.{arith}
 use native.Mathlib.Nat.{le-refl}
-use lib.Dec.{T as So, ltb, leb, eqb, ltb→lt}
+use lib.Dec.{T as So, ltb, leb, ltb→lt}
 use lib.ListN.{length}
-use borrow.Author.Tests.{le-leb, lt-leb, leb-false}
+use borrow.Author.Tests.{le-leb, lt-leb}
 use Rattle.tree.specs.Trees.{Trees, nil, tree, part, _⊕_, nodes, siblings, kids-of, first-start, last-end}
 use Rattle.tree.specs.Balance.{same-type, all-of, total, share, groups, lone, is-tree, joined, placed, each, divide, balance, balanced}
-use Rattle.tree.specs.Listing.{tline, tbelow}
+use Rattle.tree.specs.Listing.{node-line, node-below}
 use Rattle.tree.specs.Cells.{relative, packed, cells, tree-cells}
-use Rattle.tree.specs.Calls.{Written, written, materialise-cells, balance-cells, list-cells}
-use Rattle.tree.proofs.ListingLaws.{⊕-nil, view, view-⊕, view-nil, view-tree}
-use Rattle.tree.proofs.BalanceLaws.{view-hidden, kept-divided, share-pos, same-hidden}
+use Rattle.tree.specs.Calls.{written, materialise-cells, balance-cells, list-cells}
+use Rattle.tree.proofs.ListingLaws.{view, view-⊕, view-nil, view-tree}
+use Rattle.tree.proofs.BalanceLaws.{view-hidden, kept-divided, share-pos}
 use Rattle.tree.proofs.FuelLaws.{Group, Groups, groups-small, total-kids, several-pos, share-≤}
 use Rattle.tree.proofs.SizeLaws.{two-groups, some-group, size, one, size-one, size-divide}
 use Rattle.tree.proofs.CellLaws.{shift, shift-⊕, shift-zero}
 use Rattle.tree.proofs.WordLaws.{packed-⊕}
-use Rattle.tree.proofs.Well.{Known, Parts, Sound}
+use Rattle.tree.proofs.Well.{Parts, Sound}
 use Rattle.tree.proofs.WellLaws.{well-divide}
 use Rattle.tree.proofs.KeptLaws.{Kept, kept-read, kept-lines}
 
@@ -177,10 +177,10 @@ unfolding balanced
 view-balanced F d nil = refl
 view-balanced F d (part s l ws rest) = refl
 view-balanced F d (tree t s l kids rest) =
-    let d′ = tbelow F d t in
+    let d′ = node-below F d t in
     let same : view F d′ (rebuilt kids) ≡ view F d′ kids = ap (view F d′) (sym (shift-zero (rebuilt kids))) ∙ (view-rebuilt F d′ 0 kids ∙ ap (view F d′) (shift-zero kids)) in
     ap (view F d) (balanced-is t s l kids rest)
-    ∙ (view-tree F d t s l (rebuilt kids) rest ∙ (ap (λ ls. (tline F d t s (s + l) ++ ls) ++ view F d rest) same ∙ sym (view-tree F d t s l kids rest)))
+    ∙ (view-tree F d t s l (rebuilt kids) rest ∙ (ap (λ ls. (node-line F d t s (s + l) ++ ls) ++ view F d rest) same ∙ sym (view-tree F d t s l kids rest)))
 
 -- the packed words
 packed-rebuilt : (kids : Trees) → packed (rebuilt kids) ≡ packed kids

@@ -1,12 +1,12 @@
 -- The call `build`: when it is refused and when it writes. Assumes nothing.
-use mathlib.Core.Path.{_≡_, refl, sym, ap, _∙_}
+use mathlib.Core.Path.{_≡_, refl, ap, _∙_}
 use mathlib.Core.List.{List, [], _∷_, _++_}
 use mathlib.Core.Option.{Option}
 use Prim.Native.Nat.{ℕ, suc, _+_, _*_, _/_, _≤_, _<_}
 use native.Mathlib.Omega.{arith}
 use borrow.Author.Tests.{le-ltb, lt-ltb}
 use lib.ListN.{length, length-append}
-use Rattle.words.specs.Outcome.{Outcome, accepted, refused, unless-refused, Result, settled}
+use Rattle.words.specs.Outcome.{Outcome, accepted, refused, unless-refused, settled}
 use Rattle.words.specs.Words.{front}
 use Rattle.records.specs.Forest.{Forest, empty, add, count, postfix}
 use Rattle.records.specs.Parse.{parse}
@@ -15,8 +15,7 @@ use Rattle.records.proofs.AcceptLaws.{accepted-check, accepted-list}
 use Rattle.tree.specs.Trees.{Trees, nodes}
 use Rattle.tree.specs.Build.{build}
 use Rattle.tree.specs.Cells.{cell-width, packed, tree-cells}
-use Rattle.tree.specs.Calls.{Written, written, build-cells, room, build-call}
-use Rattle.tree.proofs.CellLaws.{length-tree-cells}
+use Rattle.tree.specs.Calls.{written, room, build-call}
 use Rattle.tree.proofs.CountLaws.{few-cells}
 use Rattle.tree.proofs.WordLaws.{few-words}
 

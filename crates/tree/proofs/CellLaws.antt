@@ -3,11 +3,11 @@
 use mathlib.Core.Path.{_≡_, refl, sym, ap, ap₂, _∙_}
 use mathlib.Core.List.{List, [], _∷_, _++_, append-assoc, append-nil}
 use mathlib.Core.Option.{Option, none, some}
-use Prim.Native.Nat.{ℕ, zero, suc, _+_, _-_, _*_, _/_, _≤_}
+use Prim.Native.Nat.{ℕ, zero, suc, _+_, _-_, _*_, _/_, _≤_, _<_}
 use native.Mathlib.Omega.{arith}
-use native.Mathlib.Nat.{le-refl, zero-add}
-use lib.ListN.{length, take, drop, length-append}
-use lib.Seq.{take-append-seam, drop-append-seam}
+use native.Mathlib.Nat.{le-refl, zero-add, add-zero}
+use lib.ListN.{length, getD, take, drop, length-append}
+use lib.Seq.{take-append-seam, drop-append-seam, getD-drop, drop-drop}
 use Rattle.tree.specs.Trees.{Trees, nil, tree, part, _⊕_, nodes, siblings}
 use Rattle.tree.specs.Materialise.{within, beyond, unpack, materialise}
 use Rattle.tree.specs.Cells.{cell-width, cell, relative, absolute, packed, kind, id-word, cells, leading, following, cell-tree, decode-from, decode, tree-cells}
@@ -54,6 +54,19 @@ module _ (ws : List ℕ) where
   decode-cons k i s l a n x cs =
       let e : length (cell k i s l a n x ++ cs) / cell-width ≡ suc (length cs / cell-width) = omega arith in
       rw e
+
+  -- the cell at place c, counted from 0, of n cells: for a reader that goes by cell number
+  pub decode-at : (cs : List ℕ) (c n : ℕ) → c < n → decode-from ws (n - c) (drop (c * cell-width) cs)
+      ≡ cell-tree ws (getD cs (c * cell-width) 0) (getD cs (c * cell-width + 1) 0) (getD cs (c * cell-width + 2) 0)
+      (getD cs (c * cell-width + 3) 0) (getD cs (c * cell-width + 4) 0) (getD cs (c * cell-width + 5) 0)
+      (decode-from ws (n - (c + 1)) (drop ((c + 1) * cell-width) cs))
+  unfolding decode-from
+  decode-at cs c n l =
+      let at = c * cell-width in
+      let e : n - c ≡ suc (n - (c + 1)) = omega arith in
+      let d : drop cell-width (drop at cs) ≡ drop ((c + 1) * cell-width) cs =
+      drop-drop cell-width at cs ∙ (let k : at + cell-width ≡ (c + 1) * cell-width = omega arith in ap (λ (i : ℕ). drop i cs) k) in
+      rw (e, getD-drop at cs 0 0, add-zero at, getD-drop at cs 1 0, getD-drop at cs 2 0, getD-drop at cs 3 0, getD-drop at cs 4 0, getD-drop at cs 5 0, d)
 
   -- The cells of ts in front of other cells; `pre` are the packed words before those of ts.
   pub decode-written : (ts : Trees) (c : ℕ) (pre post cs : List ℕ) → ws ≡ pre ++ (packed ts ++ post)

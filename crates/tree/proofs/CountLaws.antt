@@ -11,15 +11,15 @@ use lib.Dec.{ltb, leb}
 use lib.ListN.{length}
 use Rattle.records.specs.Forest.{Forest, count, behind}
 use Rattle.tree.specs.Trees.{Trees, nil, tree, part, _⊕_, nodes, is-nil}
-use Rattle.tree.specs.Items.{Items, mark, span, same, repeats, items, records, first, leftmost}
-use Rattle.tree.specs.Pack.{run-from, pack, run-part}
+use Rattle.tree.specs.Items.{Items, mark, span, same, repeats, items, records, first}
+use Rattle.tree.specs.Pack.{run-from, run-part}
 use Rattle.tree.specs.Balance.{same-type, all-of, total, balance}
 use Rattle.tree.specs.Groups.{Gathered, fresh, gather, close, pass, rest-closed, finish}
 use Rattle.tree.specs.Flat.{too-deep, Record, rec, flattened, flat-words, held-end, flat-part, hold, limit, ends, flat}
 use Rattle.tree.specs.Build.{walk, first-level, build}
 use Rattle.tree.specs.Materialise.{materialise}
 use Rattle.tree.proofs.Reading.{after}
-use Rattle.tree.proofs.RecordCounts.{records-items, records-split, length-flattened, length-hold, length-flat-words, length-pack, words-records}
+use Rattle.tree.proofs.RecordCounts.{records-items, records-split, length-flattened, length-hold, length-flat-words, run-short}
 use Rattle.tree.proofs.SizeLaws.{size, one, quarter, size-one, nodes-materialise, size-⊕, size-balance}
 use Rattle.tree.proofs.OwnLaws.{own-total, own-total-⊕, total-group, total-rest-closed, own-finish, Owned, owned-items}
 
@@ -148,10 +148,7 @@ module _ (c : List ℕ → ℕ) (cheap : (ws : List ℕ) (n : ℕ) → 1 ≤ n �
     run-weight : (own : Option ℕ) (i s e : ℕ) (kids more : Items) (ts : Trees)
         → size c (run-part F i s e kids more ts) + own-total own (run-part F i s e kids more ts) ≤ suc (records kids + records more) + (size c ts + own-total own ts)
     unfolding run-part records
-    run-weight own i s e kids more ts =
-        let p = leftmost s more in
-        let its = span i s e kids more in
-        part-weight own p (e - p) (pack F p 0 its) (suc (records kids + records more)) ts (omega arith) (omega (arith, length-pack F p 0 its, words-records F its))
+    run-weight own i s e kids more ts = part-weight own _ _ _ (suc (records kids + records more)) ts (omega arith) (run-short F _ (span i s e kids more))
 
     weight-tree : (own : Option ℕ) (i s e : ℕ) (inner g : Gathered) → same own i ≡ false
         → weight own (gather (λ ts. finish F i s e inner ⊕ ts) g) ≤ (2 + weight (repeats F i) inner) + weight own g

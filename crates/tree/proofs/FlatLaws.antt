@@ -10,7 +10,7 @@ use native.Mathlib.Nat.{le-refl}
 use lib.Dec.{T as So, ltb, leb, nleb→lt, not-T}
 use Rattle.records.specs.Forest.{line}
 use Rattle.tree.specs.Trees.{Trees, nil, tree, part}
-use Rattle.tree.specs.Listing.{tline, tbelow, listing}
+use Rattle.tree.specs.Listing.{node-line, node-below, listing}
 use Rattle.tree.specs.Materialise.{unpack}
 use Rattle.tree.specs.Items.{same}
 use Rattle.tree.specs.Groups.{Gathered, gather, pass}
@@ -85,7 +85,7 @@ module _ (F d : ℕ) where
   held-lines (rec i s e n ∷ rs) = line F d i s e ++ held-lines rs
 
   listing-flat : (T p off lo hi : ℕ) (rs : List Record) → p ≤ lo → Held T lo hi rs → listing F d (unpack p off (flat-words p off rs)) ≡ held-lines rs
-  unfolding unpack flat-words held-lines listing tline tbelow
+  unfolding unpack flat-words held-lines listing node-line node-below
   listing-flat T p off lo hi [] l h = refl
   listing-flat T p off lo hi (rec i s e n ∷ rs) l h =
       let none-inside : ((off + 4) - (off + 4)) / 4 ≡ 0 = omega arith in
@@ -94,7 +94,7 @@ module _ (F d : ℕ) where
       rw (none-inside, within-zero, beyond-zero, start, end, listing-flat T p (off + 4) e hi rs (omega arith) (h .rest)) (rw append-nil)
 
   view-flat-part : (T lo hi : ℕ) (rs : List Record) (ts : Trees) → Held T lo hi rs → view F d (flat-part rs ts) ≡ held-lines rs ++ view F d ts
-  unfolding flat-part held-lines tline tbelow
+  unfolding flat-part held-lines node-line node-below
   view-flat-part T lo hi [] ts h = refl
   view-flat-part T lo hi (rec i s e n ∷ []) ts h = go (ltb 65535 (e - s))
     where

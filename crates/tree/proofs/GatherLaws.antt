@@ -9,7 +9,7 @@ use native.Mathlib.Omega.{arith}
 use lib.Dec.{T, ltb, leb}
 use Rattle.records.specs.Forest.{line, below}
 use Rattle.tree.specs.Trees.{Trees, nil, tree, part, _⊕_, is-nil}
-use Rattle.tree.specs.Listing.{tline, tbelow}
+use Rattle.tree.specs.Listing.{node-line, node-below}
 use Rattle.tree.specs.Balance.{balance}
 use Rattle.tree.specs.Groups.{Gathered, fresh, gather, close, pass, rest-closed, finish}
 use Rattle.tree.proofs.ListingLaws.{view, view-⊕, view-nil, view-tree}
@@ -58,7 +58,7 @@ module _ (F d : ℕ) where
       go false e = view-hidden F d (some i) s (g .edge - s) (g .loose) (g .groups) h
 
   pub view-finish : (i s e : ℕ) (g : Gathered) → s ≤ e → view F d (finish F i s e g) ≡ line F d i s e ++ gview F (below F d i) g
-  unfolding finish gview tline tbelow
+  unfolding finish gview node-line node-below
   view-finish i s e g h = go (ltb i F) (is-nil (g .groups)) refl
     where
       plain : view F d (tree (some i) s (e - s) (g .loose ⊕ g .groups) nil) ≡ line F d i s e ++ gview F (below F d i) g

@@ -17,7 +17,7 @@ use Rattle.tree.specs.Materialise.{unpack, materialise}
 use Rattle.tree.specs.Listing.{listing, lines}
 use Rattle.tree.specs.Build.{build, first-level}
 use Rattle.tree.specs.Cells.{cell-width, relative, absolute, packed, cells, decode, tree-cells}
-use Rattle.tree.specs.Calls.{Written, written, build-cells, materialise-cells, list-cells}
+use Rattle.tree.specs.Calls.{written, build-cells, materialise-cells, list-cells}
 use Rattle.tree.proofs.ListingLaws.{view}
 use Rattle.tree.proofs.CellLaws.{length-tree-cells, decode-all, packed-relative, shift, nodes-shift, unpack-shift, absolute-shift, materialise-shift, absolute-relative, absolute-relative-top, shift-zero, packed-shift, packed-plain}
 use Rattle.tree.proofs.Well.{Plain, Parts, Sound, spelled}

@@ -5,7 +5,7 @@ use mathlib.Core.Option.{Option}
 use Prim.Native.Nat.{ℕ, _+_}
 use Rattle.tree.specs.Trees.{Trees, nil, tree, part, _⊕_}
 use Rattle.tree.specs.Materialise.{unpack, materialise}
-use Rattle.tree.specs.Listing.{tline, tbelow, listing}
+use Rattle.tree.specs.Listing.{node-line, node-below, listing}
 
 pub ⊕-nil : (ts : Trees) → ts ⊕ nil ≡ ts
 unfolding _⊕_
@@ -44,7 +44,7 @@ unfolding view listing materialise
 view-nil F d = refl
 
 pub view-tree : (F d : ℕ) (t : Option ℕ) (s l : ℕ) (kids rest : Trees)
-    → view F d (tree t s l kids rest) ≡ (tline F d t s (s + l) ++ view F (tbelow F d t) kids) ++ view F d rest
+    → view F d (tree t s l kids rest) ≡ (node-line F d t s (s + l) ++ view F (node-below F d t) kids) ++ view F d rest
 unfolding view listing materialise
 view-tree F d t s l kids rest = refl
 

@@ -4,17 +4,17 @@
 use mathlib.Core.Path.{_≡_, refl, sym, ap, ap₂, _∙_}
 use mathlib.Core.Bool.{Bool, true, false, cond}
 use mathlib.Core.List.{List, [], _∷_, _++_, append-assoc, append-nil}
-use mathlib.Core.Option.{Option, none, some}
+use mathlib.Core.Option.{none, some}
 use Prim.Native.Nat.{ℕ, zero, suc, _+_, _-_, _*_, _/_, _≤_, _<_}
 use native.Mathlib.Omega.{arith}
 use native.Mathlib.Nat.{add-zero, le-refl}
 use borrow.Author.Tests.{le-leb, lt-leb}
-use lib.Dec.{ltb, leb}
+use lib.Dec.{ltb}
 use lib.ListN.{length}
 use Rattle.records.specs.Forest.{line, below}
 use Rattle.tree.specs.Trees.{Trees, nil, tree, part, _⊕_, nodes}
 use Rattle.tree.specs.Materialise.{within, beyond, unpack, materialise}
-use Rattle.tree.specs.Listing.{tline, tbelow, listing}
+use Rattle.tree.specs.Listing.{node-line, node-below, listing}
 use Rattle.tree.specs.Cells.{id-word}
 use Rattle.tree.proofs.ListingLaws.{listing-⊕}
 use Rattle.tree.proofs.PartForms.{open-ends}
@@ -34,7 +34,7 @@ part-lines F p d off around (i ∷ s ∷ e ∷ x ∷ ws) =
 -- the lines of trees with their parts
 unfoldable pub deep-lines : (F d : ℕ) → Trees → List ℕ
 deep-lines F d nil = []
-deep-lines F d (tree t s l kids rest) = (tline F d t s (s + l) ++ deep-lines F (tbelow F d t) kids) ++ deep-lines F d rest
+deep-lines F d (tree t s l kids rest) = (node-line F d t s (s + l) ++ deep-lines F (node-below F d t) kids) ++ deep-lines F d rest
 deep-lines F d (part s l ws rest) = part-lines F s d 0 [] ws ++ deep-lines F d rest
 
 -- ends that are passed at an offset, and ends that are not below one
@@ -129,7 +129,7 @@ module _ (F p d : ℕ) where
   -- passed before.
   lines-spelled : (us : Trees) (off lo hi T : ℕ) (gone es v : List ℕ) → p ≤ lo → Typed us → Plain T lo hi us → Passed off gone → Past (off + 4 * nodes us) es
       → part-lines F p d off (gone ++ es) (spelled p off us ++ v) ≡ listing F (d + length es) us ++ part-lines F p d (off + 4 * nodes us) es v
-  unfolding spelled listing nodes id-word tline tbelow
+  unfolding spelled listing nodes id-word node-line node-below
   lines-spelled nil off lo hi T gone es v h a w g q = rw add-zero (lines-passed off gone es v g)
   lines-spelled (tree none s l kids rest) off lo hi T gone es v h a w g q = absurd a
   lines-spelled (part s l ws rest) off lo hi T gone es v h a w g q = absurd a
@@ -185,6 +185,6 @@ pub materialise-lines : (F d T lo hi : ℕ) (ts : Trees) → Sound T lo hi ts �
 unfolding materialise listing deep-lines
 materialise-lines F d T lo hi nil w = refl
 materialise-lines F d T lo hi (tree t s l kids rest) w =
-    ap₂ (λ (ks rs : List ℕ). (tline F d t s (s + l) ++ ks) ++ rs) (materialise-lines F (tbelow F d t) T s (s + l) kids (w .inner)) (materialise-lines F d T (s + l) hi rest (w .rest))
+    ap₂ (λ (ks rs : List ℕ). (node-line F d t s (s + l) ++ ks) ++ rs) (materialise-lines F (node-below F d t) T s (s + l) kids (w .inner)) (materialise-lines F d T (s + l) hi rest (w .rest))
 materialise-lines F d T lo hi (part s l ws rest) w =
     listing-⊕ F d (unpack s 0 ws) (materialise rest) ∙ ap₂ _++_ (sym (part-listing F d T s l ws (w .inner))) (materialise-lines F d T (s + l) hi rest (w .rest))

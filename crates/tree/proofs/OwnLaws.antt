@@ -8,16 +8,13 @@ use native.Mathlib.Omega.{arith}
 use native.Mathlib.Nat.{le-refl}
 use lib.Dec.{T as So, ltb, eqb, eqb→eq}
 use Rattle.records.specs.Forest.{Forest, empty, add, count}
+use Rattle.records.proofs.ParseLaws.{and-left}
 use Rattle.tree.specs.Trees.{Trees, nil, tree, part, _⊕_, is-nil}
 use Rattle.tree.specs.Items.{Items, mark, span, same, repeats, items}
 use Rattle.tree.specs.Balance.{same-type, all-of, total, lone, is-tree, joined, balance}
 use Rattle.tree.specs.Groups.{Gathered, close, rest-closed, finish}
 use Rattle.tree.proofs.BalanceLaws.{total-pos-tree, total-pos-part}
 use Rattle.tree.proofs.FuelLaws.{total-⊕}
-
-and-left : (x y : Bool) → So (x && y) → So x
-and-left true y h = tt
-and-left false y h = absurd h
 
 module _ (t : Option ℕ) where
   -- the sizes of the siblings that are trees of the type t

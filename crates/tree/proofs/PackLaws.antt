@@ -11,7 +11,7 @@ use lib.Dec.{ltb}
 use Rattle.records.specs.Forest.{line, below}
 use Rattle.tree.specs.Trees.{Trees, nil, tree, part, _⊕_, nodes}
 use Rattle.tree.specs.Materialise.{within, beyond, unpack}
-use Rattle.tree.specs.Listing.{tline, tbelow, listing}
+use Rattle.tree.specs.Listing.{node-line, node-below, listing}
 use Rattle.tree.specs.Items.{Items, mark, span}
 use Rattle.tree.specs.Pack.{width, words, entry, pack}
 use Rattle.tree.proofs.Reading.{reads}
@@ -123,7 +123,7 @@ below-repeat F d i h = rw (h, below)
 
 listing-grown : (F d i s l : ℕ) (ts : Trees) (c : Bool) → ltb i F ≡ c
     → listing F d (grown F i s l ts) ≡ line F d i s (s + l) ++ listing F (below F d i) ts
-unfolding grown listing tline tbelow
+unfolding grown listing node-line node-below
 listing-grown F d i s l ts true h = rw (h, grown) (append-nil _)
 listing-grown F d i s l ts false h = rw (h, grown, line-repeat F d i s (s + l) h, below-repeat F d i h)
 

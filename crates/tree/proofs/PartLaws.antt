@@ -1,14 +1,12 @@
 -- A part whose words are those of trees with ids below T, in order and nested, passes 16 to 20: the part check of crate
 -- `part` accepts it. So the parts that the build writes are accepted. Assumes nothing.
 use mathlib.Core.Path.{_≡_, refl, sym, ap, _∙_}
-use mathlib.Core.Bool.{true, false, cond, not, _||_}
 use mathlib.Core.List.{List, [], _∷_, _++_, append-assoc, append-nil}
 use mathlib.Core.Option.{none, some}
-use Prim.Native.Nat.{ℕ, zero, suc, _+_, _-_, _*_, _/_, _%_, _≤_, _<_}
+use Prim.Native.Nat.{ℕ, suc, _+_, _-_, _*_, _/_, _%_, _≤_, _<_}
 use native.Mathlib.Omega.{arith}
 use native.Mathlib.Nat.{add-zero, le-refl}
-use borrow.Author.Tests.{le-leb, lt-leb, le-ltb, eq-eqb}
-use lib.Dec.{ltb, leb, eqb}
+use borrow.Author.Tests.{lt-leb, le-ltb, eq-eqb}
 use lib.ListN.{length, length-append}
 use Rattle.words.specs.Outcome.{accepted}
 use Rattle.part.specs.Part.{part-check}
@@ -16,8 +14,7 @@ use Rattle.tree.specs.Trees.{Trees, nil, tree, part, nodes}
 use Rattle.tree.specs.Materialise.{unpack}
 use Rattle.tree.specs.Cells.{id-word}
 use Rattle.tree.proofs.PartForms.{Fault, open-ends, past-enclosing, entry-fault, entries-fault, part-fault, part-accepted, chosen, entries-step}
-use Rattle.tree.proofs.Well.{Plain, Parts, Sound, spelled}
-use Rattle.tree.proofs.WellLaws.{well-≤}
+use Rattle.tree.proofs.Well.{Plain, Parts, spelled}
 use Rattle.tree.proofs.MaterialiseLaws.{Passed, Past, past-down, open-passed, open-past, Typed, typed-unpack}
 
 length-spelled : (p off : ℕ) (us : Trees) → Typed us → length (spelled p off us) ≡ 4 * nodes us

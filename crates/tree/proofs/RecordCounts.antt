@@ -102,3 +102,7 @@ unfolding words records
 words-records F Items.nil = le-refl 0
 words-records F (mark i s e n rest) = omega (arith, words-records F rest)
 words-records F (span i s e kids rest) = omega (arith, words-records F rest, words-records F kids, width-≤ F i)
+
+-- a run has at most four words for each of its records
+pub run-short : (F p : ℕ) (its : Items) → length (pack F p 0 its) ≤ 4 * records its
+run-short F p its = omega (arith, length-pack F p 0 its, words-records F its)

@@ -1,22 +1,22 @@
 -- What a run of demand 3 needs and leaves: for n records 2 n + 1 cells, for the build and for materialise, 4 n packed
 -- words and n lines are enough; the build of the run is the call `build`; and what each call writes keeps the cell
 -- rules. Assumes nothing.
-use mathlib.Core.Path.{_≡_, refl, sym, ap, _∙_}
+use mathlib.Core.Path.{_≡_, ap, _∙_}
 use mathlib.Core.Bool.{Bool, true, false}
 use mathlib.Core.List.{List, [], _∷_, _++_}
-use Prim.Native.Nat.{ℕ, suc, _+_, _-_, _*_, _/_, _≤_}
+use Prim.Native.Nat.{ℕ, _+_, _-_, _*_, _/_, _≤_}
 use native.Mathlib.Omega.{arith}
 use native.Mathlib.Nat.{le-refl}
 use lib.Dec.{ltb}
 use lib.ListN.{length, length-append}
-use Rattle.words.specs.Outcome.{accepted, Result}
+use Rattle.words.specs.Outcome.{accepted}
 use Rattle.words.specs.Words.{front}
 use Rattle.records.specs.Forest.{Forest, empty, add, count, behind, line, below, reading}
 use Rattle.records.specs.Parse.{parse}
 use Rattle.tree.specs.Trees.{nodes}
 use Rattle.tree.specs.Build.{build}
 use Rattle.tree.specs.Cells.{cell-width, packed, tree-cells}
-use Rattle.tree.specs.Calls.{Written, written, build-cells, materialise-cells, build-call}
+use Rattle.tree.specs.Calls.{written, build-cells, build-call}
 use Rattle.tree.specs.Run.{Run, built, materialised, listed, read}
 use Rattle.tree.proofs.CellLaws.{length-tree-cells}
 use Rattle.tree.proofs.CountLaws.{few-cells, few-materialised}

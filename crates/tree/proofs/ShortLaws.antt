@@ -1,15 +1,16 @@
 -- Packed words have 16 bits: a run ends at most b after its part's start and has at most 65,532 words, a flat part at
 -- most 16,383 records. Assumes nothing.
 use mathlib.Core.Path.{_≡_, refl, sym, ap, subst, _∙_}
-use mathlib.Core.Bool.{Bool, true, false, _&&_, _||_, not, true≢false}
+use mathlib.Core.Bool.{Bool, true, false, _&&_, _||_, true≢false}
 use mathlib.Core.List.{List, [], _∷_, _++_}
 use mathlib.Core.Option.{Option, none, some, Option·map, Option·none-ne-some, Option·some-injective}
 use Prim.Native.Nat.{ℕ, zero, suc, _+_, _-_, _*_, _≤_, _<_}
 use native.Mathlib.Omega.{arith}
-use lib.Dec.{T as So, ltb, leb, leb→le, nleb→lt}
-use borrow.Author.Tests.{ltb-false}
+use lib.Dec.{T as So, ltb, leb, leb→le}
+use borrow.Author.Tests.{leb-false, ltb-false}
 use lib.ListN.{length}
-use Rattle.tree.specs.Items.{Items, mark, span, records, first, leftmost}
+use Rattle.records.proofs.ParseLaws.{and-right}
+use Rattle.tree.specs.Items.{Items, mark, span, first, leftmost}
 use Rattle.tree.specs.Pack.{early, long, width, words, stopped, scan, packs, run-from, entry, pack}
 use Rattle.tree.specs.Flat.{full, Record, rec, flat-words, held-end, hold, limit, ends}
 use Rattle.tree.proofs.PackLaws.{From}
@@ -20,13 +21,6 @@ use Rattle.tree.proofs.Well.{Short}
 short-++ : (us ws : List ℕ) → Short us → Short ws → Short (us ++ ws)
 short-++ [] ws a b = b
 short-++ (u ∷ us) ws a b = (a .0, short-++ us ws (a .1) b)
-
-and-right : (x y : Bool) → So (x && y) → So y
-and-right true y h = h
-and-right false y h = absurd h
-
-pub leb-false : (m n : ℕ) → leb m n ≡ false → n < m
-leb-false m n h = nleb→lt m n (subst (λ x. So (not x)) (sym h) tt)
 
 some-suc : (o : Option ℕ) (k : ℕ) → Option·map suc o ≡ some (suc k) → o ≡ some k
 some-suc none k e = absurd (Option·none-ne-some (suc k) e)
@@ -189,10 +183,10 @@ room-more : (b i s e n : ℕ) (r : Record) (rs : List Record) (stop : ℕ) → (
 unfolding held-end
 room-more b i s e n r rs stop false f near a = a
 room-more b i s e n (rec i′ s′ e′ n′) [] stop true f near a =
-    let low = leb-false (suc s) stop near in
+    let low = ltb-false s stop near in
     record { spread = (a .spread, omega (arith, a .spread)); few = omega arith }
 room-more b i s e n (rec i′ s′ e′ n′) (r ∷ rs) stop true f near a =
-    let low = leb-false (suc s) stop near in
+    let low = ltb-false s stop near in
     record { spread = (a .spread .0, omega (arith, a .spread .0)); few = omega arith }
 
 -- one more fits

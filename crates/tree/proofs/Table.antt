@@ -17,9 +17,9 @@ use Rattle.tree.specs.Groups.{fresh, gather, close, pass, rest-closed, f
 use Rattle.tree.specs.Flat.{flattened, flat-words, held-end, flat-part, hold, limit, full, ends, too-deep, flat}
 use Rattle.tree.specs.Build.{walk, first-level, build}
 use Rattle.tree.specs.Materialise.{within, beyond, unpack, materialise}
-use Rattle.tree.specs.Listing.{tline, tbelow, listing, lines}
+use Rattle.tree.specs.Listing.{node-line, node-below, listing, lines}
 use Rattle.tree.specs.Cells.{relative, absolute, packed, unless-none, kind, id-word, cells, tree-cells, leading, following, cell-tree, decode-from, decode}
-use Rattle.tree.specs.Calls.{Written, written, build-cells, materialise-cells, balance-cells, list-cells, room, build-call}
+use Rattle.tree.specs.Calls.{written, build-cells, materialise-cells, balance-cells, list-cells, room, build-call}
 
 -- what an output slice of n words holds before a call
 unfoldable pub nines : (n : ℕ) → List ℕ
@@ -110,5 +110,5 @@ Examples =
     × (children 11 ≡ 6)
 
 pub table : Examples
-unfolding nines leaves children count behind line below reading nearest farther parse-from parse own-fault fills record-fault records-check in-place or-else range-fault first-level-fault list-check check _⊕_ nodes siblings is-nil kids-of first-start last-end repeats same items records first leftmost width words stopped early scan long packs run-from entry pack run-part same-type all-of total share grows groups-from groups lone is-tree joined placed each divide balance balanced fresh gather close pass rest-closed finish flattened flat-words held-end flat-part hold limit full ends too-deep flat walk first-level build within beyond unpack materialise tline tbelow listing lines relative absolute packed unless-none kind id-word cells tree-cells leading following cell-tree decode-from decode written build-cells materialise-cells balance-cells list-cells room build-call
+unfolding nines leaves children count behind line below reading nearest farther parse-from parse own-fault fills record-fault records-check in-place or-else range-fault first-level-fault list-check check _⊕_ nodes siblings is-nil kids-of first-start last-end repeats same items records first leftmost width words stopped early scan long packs run-from entry pack run-part same-type all-of total share grows groups-from groups lone is-tree joined placed each divide balance balanced fresh gather close pass rest-closed finish flattened flat-words held-end flat-part hold limit full ends too-deep flat walk first-level build within beyond unpack materialise node-line node-below listing lines relative absolute packed unless-none kind id-word cells tree-cells leading following cell-tree decode-from decode written build-cells materialise-cells balance-cells list-cells room build-call
 table = (refl, refl, refl, refl, refl, refl, refl, refl, refl, refl, refl, refl, refl)

@@ -3,11 +3,10 @@
 -- Assumes nothing.
 use mathlib.Core.Path.{_≡_, sym, ap, ap₂, _∙_}
 use mathlib.Core.Logic.{_↔_}
-use mathlib.Core.List.{List}
 use Prim.Native.Nat.{ℕ, _≤_}
 use Rattle.records.specs.Parse.{parse}
 use Rattle.records.proofs.AcceptLaws.{accepted-nested}
-use Rattle.tree.specs.Calls.{Written, materialise-cells, list-cells}
+use Rattle.tree.specs.Calls.{materialise-cells, list-cells}
 use Rattle.tree.specs.Run.{Run, built, materialised, listed, read}
 use Rattle.tree.proofs.BuiltReading.{lines-are-reading}
 use Rattle.tree.proofs.KeptLaws.{cells-give-lines}

@@ -1,13 +1,14 @@
 -- What the walk gathers lists the items that it walked, nested so low that below depth 2,500 only leaves are left. By
 -- induction on the items. Assumes nothing.
-use mathlib.Core.Path.{_≡_, refl, sym, ap, subst, _∙_}
-use mathlib.Core.Bool.{Bool, true, false}
+use mathlib.Core.Path.{_≡_, refl, sym, ap, _∙_}
+use mathlib.Core.Bool.{Bool, true, false, true≢false}
 use mathlib.Core.List.{List, [], _++_, append-assoc, append-nil}
 use mathlib.Core.Option.{Option, none, some}
-use Prim.Native.Nat.{_<_, ℕ, zero, suc, _+_, _-_, _≤_}
+use Prim.Native.Nat.{ℕ, zero, suc, _+_, _-_, _≤_, _<_}
+use native.Mathlib.Decide.{decLe}
 use native.Mathlib.Omega.{arith}
 use native.Mathlib.Nat.{le-refl}
-use lib.Dec.{T as So, ltb, ltb→lt}
+use borrow.Author.Tests.{le-ltb}
 use Rattle.records.specs.Forest.{line, below}
 use Rattle.tree.specs.Trees.{part, _⊕_}
 use Rattle.tree.specs.Items.{Items, mark, span, repeats, first, leftmost}
@@ -25,7 +26,11 @@ use Rattle.tree.proofs.ItemLaws.{height, leaves-flattened, Fits, from-d
 -- a tree that is too deep
 deep : (d : ℕ) → too-deep d ≡ true → 2500 < d
 unfolding too-deep
-deep d x = ltb→lt _ d (subst So (sym x) tt)
+deep d x = go (decLe d 2500)
+  where
+    go : Dec (d ≤ 2500) → 2500 < d
+    go (yes h) = let shallow : too-deep d ≡ false = le-ltb _ d (omega arith) in absurd (true≢false (sym x ∙ shallow))
+    go (no h) = omega arith
 
 module _ (F T b : ℕ) where
   -- a run of items that starts with a span, as a part

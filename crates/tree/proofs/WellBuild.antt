@@ -6,6 +6,7 @@ use mathlib.Core.Option.{Option, none, some}
 use Prim.Native.Nat.{ℕ, zero, suc, _+_, _-_, _/_, _≤_, _<_}
 use native.Mathlib.Omega.{arith}
 use native.Mathlib.Nat.{le-refl}
+use borrow.Author.Tests.{ltb-false}
 use lib.Dec.{ltb}
 use Rattle.records.specs.Forest.{Forest, behind, Nested}
 use Rattle.tree.specs.Trees.{Trees, nil, tree, part, _⊕_}
@@ -21,7 +22,7 @@ use Rattle.tree.proofs.FlatLaws.{floor, floor-≤, Sorted, Held, hold-h
 use Rattle.tree.proofs.ItemLaws.{Fits, fits-≤, from-down, fits-from, from-leftmost, leftmost-≤, fits-after, sorted-flattened, own-none, fits-items}
 use Rattle.tree.proofs.Well.{Plain, Parts, Sound}
 use Rattle.tree.proofs.WellLaws.{well-down, well-up, well-⊕, Gathers, gathers-fresh, gathers-down, gathers-gather, gathers-pass, well-finish}
-use Rattle.tree.proofs.ShortLaws.{Packs, run-packs, Under, under-up, fits-under, under-first, short-pack, short-flat, Room, room-none, room-first, room-hold, leb-false}
+use Rattle.tree.proofs.ShortLaws.{Packs, run-packs, Under, under-up, fits-under, under-first, short-pack, short-flat, Room, room-none, room-first, room-hold}
 use Rattle.tree.proofs.SpellLaws.{spelled-run, spelled-flat}
 use lib.ListN.{length}
 
@@ -130,7 +131,7 @@ module _ (T : ℕ) (types : T ≤ 65536) where
 
       go : (x : Bool) → ltb 65535 (e - s) ≡ x → S lo hi (elim x [ true ↦ tree (some i) s (e - s) nil ts | false ↦ part s (e - s) (flat-words s 0 (rec i s e n ∷ [])) ts ])
       go true q = record { known = h .known; starts = h .starts; inner = rw end (h .ordered); rest = rw end (well-down T (Parts T) m e hi ts (h .rest) w) }
-      go false q = sound-part i s e n lo m hi [] ts h w (omega (arith, leb-false (suc 65535) (e - s) q)) (omega arith)
+      go false q = sound-part i s e n lo m hi [] ts h w (omega (arith, ltb-false 65535 (e - s) q)) (omega arith)
   sound-flat-part b stop bound lo m hi (rec i s e n ∷ r ∷ rs) ts h room w =
       sound-part i s e n lo m hi (r ∷ rs) ts h w (omega (arith, room .spread .1)) (omega (arith, room .few))
 

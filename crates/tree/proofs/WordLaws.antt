@@ -5,13 +5,12 @@ use mathlib.Core.List.{List, [], _∷_, _++_, append-assoc}
 use mathlib.Core.Option.{Option, none, some}
 use Prim.Native.Nat.{ℕ, zero, suc, _+_, _-_, _*_, _≤_}
 use native.Mathlib.Omega.{arith}
-use native.Mathlib.Nat.{le-refl}
 use lib.Dec.{ltb, leb}
 use lib.ListN.{length, length-append}
 use Rattle.records.specs.Forest.{Forest, count, behind}
 use Rattle.tree.specs.Trees.{Trees, nil, tree, part, _⊕_, is-nil}
-use Rattle.tree.specs.Items.{Items, mark, span, same, repeats, items, records, first, leftmost}
-use Rattle.tree.specs.Pack.{pack, run-from, run-part}
+use Rattle.tree.specs.Items.{Items, mark, span, same, repeats, items, records, first}
+use Rattle.tree.specs.Pack.{run-from, run-part}
 use Rattle.tree.specs.Balance.{balance}
 use Rattle.tree.specs.Groups.{Gathered, fresh, gather, close, pass, rest-closed, finish}
 use Rattle.tree.specs.Flat.{too-deep, Record, rec, flattened, flat-words, held-end, flat-part, hold, limit, ends, flat}
@@ -19,7 +18,7 @@ use Rattle.tree.specs.Build.{walk, first-level, build}
 use Rattle.tree.specs.Cells.{packed}
 use Rattle.tree.proofs.Reading.{after}
 use Rattle.tree.proofs.BalanceLaws.{kept-balance}
-use Rattle.tree.proofs.RecordCounts.{records-items, records-split, length-flattened, length-hold, length-flat-words, length-pack, words-records}
+use Rattle.tree.proofs.RecordCounts.{records-items, records-split, length-flattened, length-hold, length-flat-words, run-short}
 
 pub packed-⊕ : (ts us : Trees) → packed (ts ⊕ us) ≡ packed ts ++ packed us
 unfolding packed _⊕_
@@ -47,6 +46,9 @@ held-tree t s l kids rest = length-append (packed kids) (packed rest)
 held-part : (s l : ℕ) (ws : List ℕ) (rest : Trees) → held-words (part s l ws rest) ≡ length ws + held-words rest
 unfolding held-words packed
 held-part s l ws rest = length-append ws (packed rest)
+
+part-held : (s l : ℕ) (ws : List ℕ) (n : ℕ) (rest : Trees) → length ws ≤ 4 * n → held-words (part s l ws rest) ≤ 4 * n + held-words rest
+part-held s l ws n rest h = omega (arith, held-part s l ws rest)
 
 held-nil : held-words nil ≡ 0
 unfolding held-words packed
@@ -144,10 +146,7 @@ words-fresh e = refl
 module _ (F b : ℕ) where
   run-held : (i s e : ℕ) (kids more : Items) (ts : Trees) → held-words (run-part F i s e kids more ts) ≤ 4 * suc (records kids + records more) + held-words ts
   unfolding run-part records
-  run-held i s e kids more ts =
-      let p = leftmost s more in
-      let its = span i s e kids more in
-      omega (arith, held-part p (e - p) (pack F p 0 its) ts, length-pack F p 0 its, words-records F its)
+  run-held i s e kids more ts = part-held _ _ _ (suc (records kids + records more)) ts (run-short F _ (span i s e kids more))
 
   words-walk : (its : Items) (d k : ℕ) (own : Option ℕ) (g : Gathered) → all-words (walk F b its d k own g) ≤ 4 * records (after k its) + all-words g
   unfolding walk after records
@@ -184,9 +183,9 @@ module _ (F b : ℕ) where
           omega (arith, ih zero (gather (λ ts. t ⊕ ts) g))
 
 -- the packed words of a build
-pub few-words : (F b S top : ℕ) (len : Option ℕ) (f : Forest) → length (packed (build F b S top len f)) ≤ 4 * count f
+pub few-words : (F b S top : ℕ) (given : Option ℕ) (f : Forest) → length (packed (build F b S top given f)) ≤ 4 * count f
 unfolding build first-level all-words after records held-words packed
-few-words F b S top len f =
+few-words F b S top given f =
     let its = items F none f Items.nil in
     let g = walk F b its 0 0 none (fresh (behind S f)) in
     omega (

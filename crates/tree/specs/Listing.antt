@@ -7,19 +7,19 @@ use Rattle.records.specs.Forest.{line, below}
 use Rattle.tree.specs.Trees.{Trees, nil, tree, part, kids-of}
 
 -- a tree's own line at depth d, by its type
-unfoldable pub tline : (F d : ℕ) (type : Option ℕ) (s e : ℕ) → List ℕ
-tline F d none s e = []
-tline F d (some i) s e = line F d i s e
+unfoldable pub node-line : (F d : ℕ) (type : Option ℕ) (s e : ℕ) → List ℕ
+node-line F d none s e = []
+node-line F d (some i) s e = line F d i s e
 
 -- the depth of its children
-unfoldable pub tbelow : (F d : ℕ) (type : Option ℕ) → ℕ
-tbelow F d none = d
-tbelow F d (some i) = below F d i
+unfoldable pub node-below : (F d : ℕ) (type : Option ℕ) → ℕ
+node-below F d none = d
+node-below F d (some i) = below F d i
 
 -- the lines of siblings at depth d: "Listing takes a tree without kind 2"
 unfoldable pub listing : (F d : ℕ) → Trees → List ℕ
 listing F d nil = []
-listing F d (tree t s l kids rest) = (tline F d t s (s + l) ++ listing F (tbelow F d t) kids) ++ listing F d rest
+listing F d (tree t s l kids rest) = (node-line F d t s (s + l) ++ listing F (node-below F d t) kids) ++ listing F d rest
 listing F d (part s l ws rest) = listing F d rest
 
 -- the lines of a whole tree
