@@ -3,7 +3,8 @@
 use crate::model::{self, Answer, Search, Slice};
 use crate::oracle::{self, Oracle, Panicked, TreeBuffer};
 use crate::ours;
-use crate::tally::{Call, Case, Outcome, Tally};
+use crate::part_case::{Call, Case};
+use crate::tally::{Outcome, Tally};
 
 /// What stands in an answer slice before a call: no answer has it in any word.
 const UNTOUCHED: u64 = 0xfeed_beef_dead_cafe;

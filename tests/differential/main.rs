@@ -1,11 +1,20 @@
-//! The differential driver of the part calls: library, model and Rust on the same inputs.
+//! The differential driver: library, model and Rust on the same inputs.
 
 mod bench;
 mod cases;
 mod compare;
+mod list_bench;
+mod list_cases;
+mod list_compare;
+mod list_model;
+mod list_ours;
+mod list_record;
+mod list_short;
+mod lists;
 mod model;
 mod oracle;
 mod ours;
+mod part_case;
 mod record;
 mod rng;
 mod shim;
@@ -32,16 +41,22 @@ struct Options {
     seed: u64,
     /// Random cases are made until this many cases have been compared in all.
     cases: u64,
+    /// The crate whose files the recorded answers become.
     into: PathBuf,
 }
 
 fn options() -> Result<Options, String> {
     let mut words = std::env::args().skip(1);
+    let command = words.next().ok_or("a command is missing")?;
+    let into = match command.as_str() {
+        "record-lists" => "crates/record_vectors",
+        _ => "crates/part_vectors",
+    };
     let mut options = Options {
-        command: words.next().ok_or("a command is missing")?,
+        command,
         seed: 1,
         cases: 6_000_000,
-        into: PathBuf::from("crates/part_vectors"),
+        into: PathBuf::from(into),
     };
     while let Some(word) = words.next() {
         let value = words.next().ok_or(format!("{word} wants a value"))?;
@@ -69,6 +84,9 @@ fn main() -> ExitCode {
         "parts" => parts(&options),
         "bench-parts" => bench::run(options.seed),
         "record-parts" => record::run(options.seed, &options.into),
+        "lists" => lists::run(options.seed, options.cases),
+        "bench-lists" => list_bench::run(options.seed),
+        "record-lists" => list_record::run(options.seed, &options.into),
         other => {
             eprintln!("unknown command {other}");
             ExitCode::from(2)

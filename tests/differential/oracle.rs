@@ -48,7 +48,7 @@ pub mod tree {
 }
 
 pub use tree::TreeBuffer;
-use tree::{NodeFlags, NodeSet, NodeType};
+use tree::{NodeFlags, NodeSet, NodeType, Tree, TreeBuild};
 
 /// The Rust panicked: its way to refuse.
 #[derive(Clone, Copy, Debug, PartialEq)]
@@ -106,6 +106,22 @@ impl Oracle {
         let set = self.set(types)?;
         let words = words.to_vec();
         guarded(|| TreeBuffer::new(words, TextSize::new(0), set))
+    }
+
+    /// The build: the tree of a list of records. Document 01's top id has 32 bits and the Rust's 16.
+    pub fn build(&mut self, list: &crate::list_model::List) -> Result<Tree, Panicked> {
+        let set = self.set(list.types)?;
+        let top = u16::try_from(list.top).map_err(|_| Panicked)?;
+        let build = TreeBuild {
+            buffer: list.words.to_vec(),
+            node_set: set,
+            top_id: top,
+            start: TextSize::new(list.start),
+            length: None,
+            max_buffer_length: TextSize::new(list.bound),
+            min_repeat_type: list.first_repeat as usize,
+        };
+        guarded(|| Tree::build(&build))
     }
 
     /// The same with words that are handed over, and no guard: for timing.

@@ -4,7 +4,7 @@
 //! may run for ever. The answers are the Rust's; the model only says which kind of case it is.
 
 use std::collections::{BTreeMap, HashSet};
-use std::fmt::Write;
+use std::fmt::{Display, Write};
 use std::path::Path;
 use std::process::ExitCode;
 
@@ -49,9 +49,14 @@ pub fn run(seed: u64, into: &Path) -> ExitCode {
         println!("{count:5} {kind}");
     }
     println!("seed {seed}: {} cases", sample.lines.len());
+    write(into, &sample.asked, &sample.answered)
+}
+
+/// Writes what a program is asked and what it must answer.
+pub fn write(into: &Path, asked: &str, answered: &str) -> ExitCode {
     let written = std::fs::create_dir_all(into)
-        .and_then(|()| std::fs::write(into.join("stdin"), &sample.asked))
-        .and_then(|()| std::fs::write(into.join("stdout"), &sample.answered));
+        .and_then(|()| std::fs::write(into.join("stdin"), asked))
+        .and_then(|()| std::fs::write(into.join("stdout"), answered));
     match written {
         Ok(()) => ExitCode::SUCCESS,
         Err(error) => {
@@ -210,7 +215,7 @@ impl Sample {
 }
 
 /// Words with a space before each.
-fn spaced(words: &[u16]) -> String {
+fn spaced<A: Display>(words: &[A]) -> String {
     let mut text = String::new();
     for word in words {
         write!(text, " {word}").expect("writing to a string");
@@ -219,6 +224,6 @@ fn spaced(words: &[u16]) -> String {
 }
 
 /// The number of words, then the words, with a space before each.
-fn counted(words: &[u16]) -> String {
+pub fn counted<A: Display>(words: &[A]) -> String {
     format!(" {}{}", words.len(), spaced(words))
 }

@@ -2,69 +2,18 @@
 
 use std::collections::BTreeMap;
 
-use crate::model::{Search, Slice};
+/// One input of a call, as the tables need it.
+pub trait Input {
+    fn call(&self) -> &'static str;
 
-#[derive(Clone, Copy, Debug)]
-pub enum Call {
-    Check,
-    Slice(Slice),
-    Search(Search),
-}
-
-impl Call {
-    pub fn name(&self) -> &'static str {
-        match self {
-            Call::Check => "check",
-            Call::Slice(_) => "slice",
-            Call::Search(_) => "search",
-        }
-    }
-}
-
-/// One case: a call on a part under a number of types.
-pub struct Case<'a> {
-    pub types: u32,
-    pub words: &'a [u16],
-    pub call: Call,
-}
-
-impl Case<'_> {
-    pub fn describe(&self) -> String {
-        let call = match self.call {
-            Call::Check => String::from("check"),
-            Call::Slice(c) => format!(
-                "slice {} to {}, base {}, room {}",
-                c.from, c.to, c.base, c.room
-            ),
-            Call::Search(c) => format!(
-                "search {} to {}, direction {}, position {}, base {}, side {}",
-                c.from, c.to, c.direction, c.position, c.base, c.side
-            ),
-        };
-        format!("{call}, T {}, words {}", self.types, shortened(self.words))
-    }
+    fn describe(&self) -> String;
 
     /// How small an input is: by its words first, then by the size of its numbers.
-    fn weight(&self) -> (usize, u128) {
-        let numbers: u128 = match self.call {
-            Call::Check => 0,
-            Call::Slice(c) => sum(&[c.from as u64, c.to as u64, c.base.into(), c.room as u64]),
-            Call::Search(c) => {
-                let signs = [c.direction.unsigned_abs(), c.side.unsigned_abs()];
-                sum(&[c.from as u64, c.to as u64, c.base.into(), c.position.into()])
-                    + sum(&signs.map(u64::from))
-            }
-        };
-        let words: u128 = self.words.iter().map(|&word| u128::from(word)).sum();
-        (self.words.len(), numbers + words + u128::from(self.types))
-    }
+    fn weight(&self) -> (usize, u128);
 }
 
-fn sum(numbers: &[u64]) -> u128 {
-    numbers.iter().map(|&number| u128::from(number)).sum()
-}
-
-fn shortened(words: &[u16]) -> String {
+/// Words as they are printed: no more than the first few.
+pub fn shortened<A: std::fmt::Debug>(words: &[A]) -> String {
     if words.len() <= 64 {
         return format!("{words:?}");
     }
@@ -108,8 +57,8 @@ pub struct Tally {
 const SHOWN: usize = 10;
 
 impl Tally {
-    pub fn count(&mut self, case: &Case, number: u32, outcome: Outcome) {
-        let row = self.rows.entry((case.call.name(), number)).or_default();
+    pub fn count(&mut self, case: &impl Input, number: u32, outcome: Outcome) {
+        let row = self.rows.entry((case.call(), number)).or_default();
         row.cases += 1;
         match outcome {
             Outcome::Same => row.same += 1,
@@ -121,7 +70,7 @@ impl Tally {
         }
     }
 
-    fn count_class(&mut self, name: &'static str, case: &Case) {
+    fn count_class(&mut self, name: &'static str, case: &impl Input) {
         let weight = case.weight();
         let class = self.classes.entry(name).or_insert_with(|| Class {
             cases: 0,
@@ -136,11 +85,8 @@ impl Tally {
     }
 
     /// A case on which two of library, model and Rust differ in a way that nothing explains.
-    pub fn differ(&mut self, case: &Case, what: &str) {
-        self.rows
-            .entry((case.call.name(), u32::MAX))
-            .or_default()
-            .cases += 1;
+    pub fn differ(&mut self, case: &impl Input, what: &str) {
+        self.rows.entry((case.call(), u32::MAX)).or_default().cases += 1;
         self.unexplained += 1;
         if self.shown.len() < SHOWN {
             self.shown.push(format!("{}: {what}", case.describe()));

@@ -23,10 +23,6 @@ const SLICE_HEAD: usize = 7;
 
 const SEARCH_HEAD: usize = 9;
 
-fn print(text: &[u8]) {
-    io::write_all(libc::STDOUT_FILENO, text);
-}
-
 fn print_number(number: u64) {
     io::print_decimal(libc::STDOUT_FILENO, number);
 }
@@ -35,7 +31,7 @@ fn print_number(number: u64) {
 fn print_words(words: &[u16]) {
     let mut i: usize = 0;
     while i < words.len() {
-        print(b" ");
+        text::print(b" ");
         print_number(words::wide64(words[i]));
         i += 1;
     }
@@ -68,11 +64,11 @@ fn answer_check(types: u32, part: &[u16]) {
     let answer = part::part_check(part, types);
     match answer {
         Checked::Records(count) => {
-            print(b"records ");
+            text::print(b"records ");
             print_number(count as u64);
-            print(b"\n");
+            text::print(b"\n");
         }
-        Checked::Refused(_, _) => print(b"refused\n"),
+        Checked::Refused(_, _) => text::print(b"refused\n"),
     }
 }
 
@@ -106,18 +102,18 @@ fn answer_slice(types: u32, given: &[u64], part: &[u16], out: &mut [u16]) -> boo
     let answer = slicing::slice(part, types, from, to, base as u32, cut);
     match answer {
         Sliced::Words(count, length) => print_slice(count, length),
-        Sliced::Refused(_, _) => print(b"refused"),
+        Sliced::Refused(_, _) => text::print(b"refused"),
     }
-    print(b" :");
+    text::print(b" :");
     print_words(cut);
-    print(b"\n");
+    text::print(b"\n");
     true
 }
 
 fn print_slice(count: usize, length: u16) {
-    print(b"words ");
+    text::print(b"words ");
     print_number(count as u64);
-    print(b" length ");
+    text::print(b" length ");
     print_number(words::wide64(length));
 }
 
@@ -163,12 +159,12 @@ fn answer_search(types: u32, given: &[u64], part: &[u16]) -> bool
 fn print_search(answer: Searched) {
     match answer {
         Searched::Match(at) => {
-            print(b"match ");
+            text::print(b"match ");
             print_number(at as u64);
-            print(b"\n");
+            text::print(b"\n");
         }
-        Searched::NoMatch => print(b"none\n"),
-        Searched::Refused(_, _) => print(b"refused\n"),
+        Searched::NoMatch => text::print(b"none\n"),
+        Searched::Refused(_, _) => text::print(b"refused\n"),
     }
 }
 
@@ -222,7 +218,7 @@ fn answer(given: &[u64], words: &mut [u16], out: &mut [u16]) -> bool {
 fn answer_line(line: &[u8], numbers: &mut [u64], words: &mut [u16], out: &mut [u16]) {
     let count = text::numbers(line, numbers);
     if !answer(&numbers[..count], words, out) {
-        print(b"bad line\n");
+        text::print(b"bad line\n");
     }
 }
 
@@ -239,15 +235,8 @@ fn replay(text: &[u8], numbers: &mut [u64], words: &mut [u16], out: &mut [u16]) 
     }
 }
 
-// Room for the whole input. It comes from a function, so that no proof of what is done with it holds its every byte.
-fn input_room() -> [u8; 1048576]
-    ensures { λ r. ⌜ 1048576 ≡ length r ⌝ }
-{
-    [0; 1048576]
-}
-
 fn main() {
-    let mut input = input_room();
+    let mut input = text::input_room();
     let count = io::read_full(libc::STDIN_FILENO, &mut input);
     let mut numbers = [0u64; 521];
     let mut words = [0u16; 512];

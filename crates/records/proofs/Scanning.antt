@@ -29,7 +29,7 @@ pub record Scanning (T S : ℕ) (ws w₀ w : List ℕ) (n i height : ℕ) (order
   pub kept : length w ≡ length w₀
   pub room : n * 3 ≤ length w
   pub progress : Progress T ws i
-  pub stacked : Stacked w (finished ws i) height
+  pub stacked : Stacked n w (finished ws i) height
   pub nested : ordered ≡ true → Nested T S 4294967295 (finished ws i)
 
 pub scan-none : (T S : ℕ) (ws w : List ℕ) (n : ℕ) → S ≤ 4294967295 → length ws ≡ n * 4 → n * 3 ≤ length w → Scanning T S ws w w n 0 0 true
@@ -81,14 +81,14 @@ module _ {T S : ℕ} {ws w₀ w : List ℕ} {n i height : ℕ} {ordered : Bool} 
 
   -- the height is a number of records
   pub height-few : height ≤ i
-  height-few = omega (arith, stacked-few w f height (h .scan .stacked), counted-here)
+  height-few = omega (arith, stacked-few n w f height (h .scan .stacked), counted-here)
 
   own : (id-of ws i < T) × (start-of ws i ≤ end-of ws i)
   own = own-sound T ws i before-here room-here (fault-at T ws i) refl (h .clear)
 
   -- a record with no descendants
   pub scan-leaf : {s : ℕ} {good ordered′ : Bool} {w′ : List ℕ} → last-of ws i ≡ 4 → s ≡ start-of ws i
-      → good ≡ leb (behind S (finished ws i)) (start-of ws i) → ordered′ ≡ (ordered && good) → w′ ≡ pushed w height i s
+      → good ≡ leb (behind S (finished ws i)) (start-of ws i) → ordered′ ≡ (ordered && good) → w′ ≡ pushed n w height i s
       → Scanning T S ws w₀ w′ n (i + 1) (height + 1) ordered′
   scan-leaf {s} {good} {ordered′} {w′} four es eg eo ew =
       let one : 1 ≡ span ws i = omega (arith, four) in
@@ -102,7 +102,7 @@ module _ {T S : ℕ} {ws w₀ w : List ℕ} {n i height : ℕ} {ordered : Bool} 
         progress = p .0;
         stacked =
             rw (now, ew, es)
-            (stacked-push w f height (h .scan .stacked) i counted-here (omega (arith, h .less, h .scan .room)) (start-of ws i) (id-of ws i) (end-of ws i));
+            (stacked-push n w f height (h .scan .stacked) i counted-here (h .less) (h .scan .room) (start-of ws i) (id-of ws i) (end-of ws i));
         nested = λ t.
             let b = and-both ordered good (sym eo ∙ t) in
             rw now
@@ -126,19 +126,19 @@ module _ {T S : ℕ} {ws w₀ w : List ℕ} {n i height : ℕ} {ordered : Bool} 
     from-is : from ≡ count f - (m - 1)
     from-is = omega (arith, x .begins, counted-here, some-inside)
 
-    module _ (level : ℕ) {begun : Bool} (eb : begun ≡ begins-at w level from height) where
+    module _ (level : ℕ) {begun : Bool} (eb : begun ≡ begins-at n w level from height) where
       -- 9
-      pub scan-crossing : level ≡ getD w (from * 3) 0 → begun ≡ false → records-check T empty ws ≡ refused 9 i
+      pub scan-crossing : level ≡ getD w from 0 → begun ≡ false → records-check T empty ws ≡ refused 9 i
       scan-crossing e no-sibling =
           crossing-refused T ws i before-here room-here (fault-at T ws i) refl (h .clear) m (x .spans)
-          (none-at w f height (h .scan .stacked) from level (m - 1) some-inside few-here from-is e (sym eb ∙ no-sibling))
+          (none-at n w f height (h .scan .stacked) from level (m - 1) some-inside few-here from-is e (sym eb ∙ no-sibling))
 
       module _ (sibling : begun ≡ true) where
-        split : Split w f from level
-        split = split-at w f height (h .scan .stacked) from level (sym eb ∙ sibling)
+        split : Split n w f from level
+        split = split-at n w f height (h .scan .stacked) from level (sym eb ∙ sibling)
 
         pub level-low : level < height
-        level-low = begins-low w level from height (sym eb ∙ sibling)
+        level-low = begins-low n w level from height (sym eb ∙ sibling)
 
         held : count f - from ≡ m - 1
         held = omega (arith, from-is, few-here)
@@ -153,9 +153,9 @@ module _ {T S : ℕ} {ws w₀ w : List ℕ} {n i height : ℕ} {ordered : Bool} 
         pub spelt-before : Spelt ws from
         spelt-before = earlier .0
 
-        pub scan-parent : {s first : ℕ} {over good both₁ ordered′ : Bool} {w′ : List ℕ} → s ≡ start-of ws i → first ≡ getD w (level * 3 + 2) 0
+        pub scan-parent : {s first : ℕ} {over good both₁ ordered′ : Bool} {w′ : List ℕ} → s ≡ start-of ws i → first ≡ getD w (n + level * 2 + 1) 0
             → over ≡ reaches (start-of ws i) (end-of ws i) first (end-of ws (i - 1)) → good ≡ leb (behind S (finished ws from)) (start-of ws i)
-            → both₁ ≡ (over && good) → ordered′ ≡ (ordered && both₁) → w′ ≡ set w (level * 3 + 2) s
+            → both₁ ≡ (over && good) → ordered′ ≡ (ordered && both₁) → w′ ≡ set w (n + level * 2 + 1) s
             → Scanning T S ws w₀ w′ n (i + 1) (level + 1) ordered′
         scan-parent {s} {first} {over} {good} {both₁} {ordered′} {w′} es e₁ eh eg e₂ eo ew =
             let p = progress-next T ws i before-here room-here (fault-at T ws i) refl (h .clear) m (x .spans) filled in
@@ -167,7 +167,7 @@ module _ {T S : ℕ} {ws w₀ w : List ℕ} {n i height : ℕ} {ordered : Bool} 
               progress = p .0;
               stacked =
                   rw (p .1, ew, es)
-                  (stacked-grow w f from level (m - 1) split held (omega (arith, h .scan .room, h .less, height-few, level-low)) (id-of ws i) (start-of ws i) (end-of ws i));
+                  (stacked-grow n w f from level (m - 1) split held (omega (arith, counted-here, h .less)) (omega (arith, h .scan .room, h .less, height-few, level-low)) (id-of ws i) (start-of ws i) (end-of ws i));
               nested = λ t.
                   let b = and-both ordered both₁ (sym eo ∙ t) in
                   let c = and-both over good (sym e₂ ∙ b .1) in

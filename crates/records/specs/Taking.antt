@@ -31,27 +31,27 @@ fault-at T ws i = own-fault T i (id-of ws i) (start-of ws i) (end-of ws i) (last
 unfoldable pub reaches : (s e first last : ℕ) → Bool
 reaches s e first last = leb s first && leb last e
 
--- The work slice holds the first-level siblings of a forest, three words each: for sibling number k from 0, the record number
--- at which its span begins is word 3 k + 1 and its start word 3 k + 2; where its span begins at record b, k is word 3 b.
-abbrev pub Stacked : (work : List ℕ) → Forest → (height : ℕ) → Type 0
-Stacked w empty h = h ≡ 0
-Stacked w (add before i s e kids) h =
+-- The work slice holds the first-level siblings of a forest of at most n records: word b is the number, from 0, of the sibling
+-- whose span begins at record b; two words for each sibling follow the first n, this record number and its start.
+abbrev pub Stacked : (n : ℕ) (work : List ℕ) → Forest → (height : ℕ) → Type 0
+Stacked n w empty h = h ≡ 0
+Stacked n w (add before i s e kids) h =
     record {
       under : ℕ;
       is : h ≡ suc under;
-      begins : getD w (under * 3 + 1) 0 ≡ count before;
-      starts : getD w (under * 3 + 2) 0 ≡ s;
-      level : getD w (count before * 3) 0 ≡ under;
-      earlier : Stacked w before under;
+      begins : getD w (n + under * 2) 0 ≡ count before;
+      starts : getD w (n + under * 2 + 1) 0 ≡ s;
+      level : getD w (count before) 0 ≡ under;
+      earlier : Stacked n w before under;
     }
 
 -- sibling number `level`, below the height, has a span that begins at record `from`
-unfoldable pub begins-at : (work : List ℕ) → (level from height : ℕ) → Bool
-begins-at w level from height = ltb level height && eqb (getD w (level * 3 + 1) 0) from
+unfoldable pub begins-at : (n : ℕ) (work : List ℕ) → (level from height : ℕ) → Bool
+begins-at n w level from height = ltb level height && eqb (getD w (n + level * 2) 0) from
 
 -- a sibling written into the work slice
-abbrev pub pushed : (work : List ℕ) → (height from start : ℕ) → List ℕ
-pushed w height from start = set (set (set w (from * 3) height) (height * 3 + 1) from) (height * 3 + 2) start
+abbrev pub pushed : (n : ℕ) (work : List ℕ) → (height from start : ℕ) → List ℕ
+pushed n w height from start = set (set (set w from height) (n + height * 2) from) (n + height * 2 + 1) start
 
 -- what the scan answers: 6 to 9 refuse; or they do not, and 10 does not either; or they do not
 abbrev pub Says : (T S : ℕ) → List ℕ → Scanned → Type 0

@@ -142,31 +142,32 @@ fn both(a: bool, b: bool) -> bool
 }
 
 // Whether `level` is the number of a sibling, one of `height`, whose span begins at record `from`.
-fn begins(work: &[u32], level: usize, from: usize, height: usize) -> bool
-    requires { ⌜ height * 3 ≤ length (now work) ⌝ }
-    ensures { λ r. ⌜ r ≡ begins-at (now (work .entry)) level from height ⌝ }
+fn begins(work: &[u32], n: usize, level: usize, from: usize, height: usize) -> bool
+    requires { ⌜ n + height * 2 ≤ length (now work) ⌝ }
+    ensures { λ r. ⌜ r ≡ begins-at n (now (work .entry)) level from height ⌝ }
 {
     if height <= level {
         return false;
     }
-    work[level * 3 + 1] as usize == from
+    work[n + level * 2] as usize == from
 }
 
 // One sibling more: its span begins at record `from`.
-fn push(work: &mut [u32], height: usize, from: usize, start: u32)
-    requires { ⌜ from < 1048576 ⌝ }
+fn push(work: &mut [u32], n: usize, height: usize, from: usize, start: u32)
+    requires { ⌜ n ≤ 1048576 ⌝ }
+    requires { ⌜ from < n ⌝ }
     requires { ⌜ height ≤ from ⌝ }
-    requires { ⌜ from * 3 + 3 ≤ length (now work) ⌝ }
-    ensures { λ _. ⌜ now (work .exit) ≡ pushed (now (work .entry)) height from start ⌝ }
+    requires { ⌜ n * 3 ≤ length (now work) ⌝ }
+    ensures { λ _. ⌜ now (work .exit) ≡ pushed n (now (work .entry)) height from start ⌝ }
 {
-    work[from * 3] = height as u32;
-    work[height * 3 + 1] = from as u32;
-    work[height * 3 + 2] = start;
+    work[from] = height as u32;
+    work[n + height * 2] = from as u32;
+    work[n + height * 2 + 1] = start;
 }
 
-// 6 to 9, record by record, and whether 10 may apply. The work slice holds the first-level siblings so far, three words each
-// (Stacked): the first child of a record is found at once, by the record at which both spans begin. Only its start and the
-// last child's end are compared with the record's range: the children are in order.
+// 6 to 9, record by record, and whether 10 may apply. The work slice holds the first-level siblings so far (Stacked): the
+// first child of a record is found at once, by the record at which both spans begin. Only its start and the last child's end
+// are compared with the record's range: the children are in order.
 fn scan_records(types: u32, start: u32, records: &[u32], work: &mut [u32]) -> Scanned
     requires { ⌜ length (now records) % 4 ≡ 0 ⌝ }
     requires { ⌜ length (now records) / 4 ≤ 1048576 ⌝ }
@@ -184,19 +185,19 @@ fn scan_records(types: u32, start: u32, records: &[u32], work: &mut [u32]) -> Sc
         }
         if size_at(records, i) == 4 {
             ordered = both(ordered, follows(records, i, i, start));
-            push(work, height, i, start_at(records, i));
+            push(work, n, height, i, start_at(records, i));
             height += 1;
             i += 1;
             continue;
         }
         let from = i + 1 - span_at(records, i);
-        let level = work[from * 3] as usize;
-        if !begins(work, level, from, height) {
+        let level = work[from] as usize;
+        if !begins(work, n, level, from, height) {
             return Scanned::Refused(9, i as u32);
         }
-        let held = covers(records, i, work[level * 3 + 2]);
+        let held = covers(records, i, work[n + level * 2 + 1]);
         ordered = both(ordered, both(held, follows(records, i, from, start)));
-        work[level * 3 + 2] = start_at(records, i);
+        work[n + level * 2 + 1] = start_at(records, i);
         height = level + 1;
         i += 1;
     }

@@ -1,4 +1,4 @@
-// Reading numbers out of lines of text.
+// What the programs that answer line by line share: the input, numbers out of lines of text, the output.
 ghost use mathlib.Core.Path.{_≡_};
 ghost use Prim.Native.Nat.{_+_, _≤_};
 ghost use lib.ListN.{length};
@@ -165,4 +165,15 @@ pub fn line_end(text: &[u8], from: usize) -> usize
         at += 1;
     }
     at
+}
+
+// Room for the whole input. It comes from a function, so that no proof of what is done with it holds its every byte.
+pub fn input_room() -> [u8; 1048576]
+    ensures { λ r. ⌜ 1048576 ≡ length r ⌝ }
+{
+    [0; 1048576]
+}
+
+pub fn print(text: &[u8]) {
+    io::write_all(libc::STDOUT_FILENO, text);
 }

@@ -7,13 +7,13 @@ use Rattle.records.proofs.begins.Statement.{statement}
 use Rattle.records.proofs.begins.Tie as tie
 
 returns : tie.Need-returns
-returns c = K.begins-none _ _ _ _ (c .if1 .taken)
+returns c = K.begins-none _ _ _ _ _ (c .if1 .taken)
 
 cast-result : tie.Need-cast-result
-cast-result c = omega (arith, c .shared-slice-known .given (c .before .before .args .level * 3 + 1))
+cast-result c = omega (arith, c .shared-slice-known .given (c .before .before .args .n + c .before .before .args .level * 2))
 
 returns-2 : tie.Need-returns-2
-returns-2 c = K.begins-some _ _ _ _ (c .before .if1 .left)
+returns-2 c = K.begins-some _ _ _ _ _ (c .before .if1 .left)
 
 pub begins-spec : {M : Type 1} → statement M
 begins-spec =

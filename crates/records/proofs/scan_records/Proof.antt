@@ -34,10 +34,10 @@ module _ (b : tie.After-span-at Inv-loop μ-loop) where
 
 -- a sibling begins where its span begins
 module _ (d : tie.Else3 Inv-loop μ-loop) where
-  low : getD (d .before .before .before .before .before .before .before .before .before .before .loop .work) ((d .before .before .before .before .before .before .before .before .before .before .loop .i + 1 - d .before .before .before .before .span-at .result) * 3) 0 < d .before .before .before .before .before .before .before .before .before .before .loop .height
+  low : getD (d .before .before .before .before .before .before .before .before .before .before .loop .work) (d .before .before .before .before .before .before .before .before .before .before .loop .i + 1 - d .before .before .before .before .span-at .result) 0 < d .before .before .before .before .before .before .before .before .before .before .loop .height
   low = C.level-low (here (d .before .before .before .before .before .before .before)) (inside (d .before .before .before .before)) _ (d .before .begins .ensures) (not-false _ (d .if3 .left))
 
-  small : getD (d .before .before .before .before .before .before .before .before .before .before .loop .work) ((d .before .before .before .before .before .before .before .before .before .before .loop .i + 1 - d .before .before .before .before .span-at .result) * 3) 0 < 1048576
+  small : getD (d .before .before .before .before .before .before .before .before .before .before .loop .work) (d .before .before .before .before .before .before .before .before .before .before .loop .i + 1 - d .before .before .before .before .span-at .result) 0 < 1048576
   small = omega (arith, low, C.height-few (here (d .before .before .before .before .before .before .before)), d .before .before .before .before .before .before .before .before .before .loop-test .taken, d .before .before .before .before .before .before .before .before .before .before .before .before .before .pre .1 .0)
 
 loop-holds : tie.Need-loop-holds Inv-loop μ-loop
@@ -53,7 +53,7 @@ follows-requires : tie.Need-follows-requires Inv-loop μ-loop
 follows-requires c κs = (C.room-here (here (c .before .before)), c .before .before .before .before .before .loop .inv .progress .sound)
 
 push-requires : tie.Need-push-requires Inv-loop μ-loop
-push-requires c κs = (omega (arith, c .before .before .before .before .before .before .before .before .before .before .before .before .pre .1 .0), (C.height-few (here (c .before .before .before .before .before .before)), omega (arith, c .before .before .before .before .before .before .before .before .before .loop .inv .room)))
+push-requires c κs = (c .before .before .before .before .before .before .before .before .before .before .before .before .pre .1 .0, (c .before .before .before .before .before .before .before .before .loop-test .taken, (C.height-few (here (c .before .before .before .before .before .before)), c .before .before .before .before .before .before .before .before .before .loop .inv .room)))
 
 add-height : tie.Need-add-height Inv-loop μ-loop
 add-height c = omega (arith, C.height-few (here (c .before .before .before .before .before .before .before .before .before)), c .before .before .before .before .before .before .before .before .before .before .before .before .before .before .before .pre .1 .0)
@@ -69,17 +69,14 @@ sub-from c = let s = C.sized-at (here (c .before .before .before)) (inside c) in
 mul-level : tie.Need-mul-level Inv-loop μ-loop
 mul-level c = omega (arith, C.begins-before (here (c .before .before .before)) (inside c), c .before .before .before .before .before .before .before .before .before .pre .1 .0)
 
-mul-level-2 : tie.Need-mul-level-2 Inv-loop μ-loop
-mul-level-2 c = omega (arith, C.begins-before (here (c .before .before .before)) (inside c), c .before .before .before .before .before .before .before .before .before .pre .1 .0)
-
 slice-read-level : tie.Need-slice-read-level Inv-loop μ-loop
 slice-read-level c = omega (arith, C.begins-before (here (c .before .before .before .before)) (inside (c .before)), c .before .before .before .before .before .before .before .loop .inv .room)
 
 cast-level : tie.Need-cast-level Inv-loop μ-loop
-cast-level c = omega (arith, c .slice-known3 .given ((c .before .before .before .before .before .before .before .loop .i + 1 - c .before .span-at .result) * 3))
+cast-level c = omega (arith, c .slice-known3 .given (c .before .before .before .before .before .before .before .loop .i + 1 - c .before .span-at .result))
 
 begins-requires : tie.Need-begins-requires Inv-loop μ-loop
-begins-requires c κs = omega (arith, C.height-few (here (c .before .before .before .before .before)), c .before .before .before .before .before .before .before .before .loop .inv .room)
+begins-requires c κs = omega (arith, C.height-few (here (c .before .before .before .before .before)), c .before .before .before .before .before .before .before .loop-test .taken, c .before .before .before .before .before .before .before .before .loop .inv .room)
 
 same-length-2 : tie.Need-same-length-2 Inv-loop μ-loop
 same-length-2 c = c .before .before .before .before .before .before .before .before .before .before .loop .inv .kept
@@ -88,16 +85,19 @@ returns-2 : tie.Need-returns-2 Inv-loop μ-loop
 returns-2 c = C.scan-crossing (here (c .before .before .before .before .before .before .before)) (inside (c .before .before .before .before)) _ (c .before .begins .ensures) refl (not-true _ (c .if3 .taken))
 
 mul-covers : tie.Need-mul-covers Inv-loop μ-loop
-mul-covers c = omega (arith, small c)
+mul-covers c = omega (arith, small c, c .before .before .before .before .before .before .before .before .before .before .before .before .before .pre .1 .0)
 
 add-covers : tie.Need-add-covers Inv-loop μ-loop
-add-covers c = omega (arith, small c)
+add-covers c = omega (arith, small c, c .before .before .before .before .before .before .before .before .before .before .before .before .before .pre .1 .0)
+
+add-covers-2 : tie.Need-add-covers-2 Inv-loop μ-loop
+add-covers-2 c = omega (arith, small c, c .before .before .before .before .before .before .before .before .before .before .before .before .before .pre .1 .0)
 
 mul-covers-2 : tie.Need-mul-covers-2 Inv-loop μ-loop
-mul-covers-2 c = omega (arith, small c)
+mul-covers-2 c = omega (arith, small c, c .before .before .before .before .before .before .before .before .before .before .before .before .before .pre .1 .0)
 
 slice-read-covers : tie.Need-slice-read-covers Inv-loop μ-loop
-slice-read-covers c = omega (arith, low (c .before), C.height-few (here (c .before .before .before .before .before .before .before .before)), c .before .before .before .before .before .before .before .before .before .before .before .loop .inv .room)
+slice-read-covers c = omega (arith, low (c .before), C.height-few (here (c .before .before .before .before .before .before .before .before)), c .before .before .before .before .before .before .before .before .before .before .loop-test .taken, c .before .before .before .before .before .before .before .before .before .before .before .loop .inv .room)
 
 covers-requires : tie.Need-covers-requires Inv-loop μ-loop
 covers-requires c κs = (C.room-here (here (c .before .before .before .before .before .before .before .before)), omega (arith, C.begins-before (here (c .before .before .before .before .before .before .before .before)) (inside (c .before .before .before .before .before))))
@@ -107,16 +107,19 @@ follows-requires-2 c κs =
     (C.room-here (here (c .before .before .before .before .before .before .before .before .before)), C.spelt-before (here (c .before .before .before .before .before .before .before .before .before)) (inside (c .before .before .before .before .before .before)) _ (c .before .before .before .begins .ensures) (not-false _ (c .before .before .if3 .left)))
 
 mul-work : tie.Need-mul-work Inv-loop μ-loop
-mul-work c = omega (arith, small (c .before .before .before .before .before .before))
+mul-work c = omega (arith, small (c .before .before .before .before .before .before), c .before .before .before .before .before .before .before .before .before .before .before .before .before .before .before .before .before .before .before .pre .1 .0)
 
 add-work : tie.Need-add-work Inv-loop μ-loop
-add-work c = omega (arith, small (c .before .before .before .before .before .before))
+add-work c = omega (arith, small (c .before .before .before .before .before .before), c .before .before .before .before .before .before .before .before .before .before .before .before .before .before .before .before .before .before .before .pre .1 .0)
+
+add-work-2 : tie.Need-add-work-2 Inv-loop μ-loop
+add-work-2 c = omega (arith, small (c .before .before .before .before .before .before), c .before .before .before .before .before .before .before .before .before .before .before .before .before .before .before .before .before .before .before .pre .1 .0)
 
 mul-work-2 : tie.Need-mul-work-2 Inv-loop μ-loop
-mul-work-2 c = omega (arith, small (c .before .before .before .before .before .before))
+mul-work-2 c = omega (arith, small (c .before .before .before .before .before .before), c .before .before .before .before .before .before .before .before .before .before .before .before .before .before .before .before .before .before .before .pre .1 .0)
 
 slice-write-work : tie.Need-slice-write-work Inv-loop μ-loop
-slice-write-work c = omega (arith, low (c .before .before .before .before .before .before), C.height-few (here (c .before .before .before .before .before .before .before .before .before .before .before .before .before)), c .before .before .before .before .before .before .before .before .before .before .before .before .before .before .before .before .loop .inv .room)
+slice-write-work c = omega (arith, low (c .before .before .before .before .before .before), C.height-few (here (c .before .before .before .before .before .before .before .before .before .before .before .before .before)), c .before .before .before .before .before .before .before .before .before .before .before .before .before .before .before .loop-test .taken, c .before .before .before .before .before .before .before .before .before .before .before .before .before .before .before .before .loop .inv .room)
 
 add-height-2 : tie.Need-add-height-2 Inv-loop μ-loop
 add-height-2 c = omega (arith, small (c .before .before .before .before .before .before))
@@ -162,7 +165,6 @@ scan-records-spec =
     (λ c κs. search needs)
     sub-from
     mul-level
-    mul-level-2
     slice-read-level
     cast-level
     begins-requires
@@ -171,6 +173,7 @@ scan-records-spec =
     returns-2
     mul-covers
     add-covers
+    add-covers-2
     mul-covers-2
     slice-read-covers
     covers-requires
@@ -180,6 +183,7 @@ scan-records-spec =
     (λ c κs. search needs)
     mul-work
     add-work
+    add-work-2
     mul-work-2
     slice-write-work
     add-height-2

@@ -1,9 +1,9 @@
--- `part_vectors::input_room` meets its contract: the length of a repeat, by its law, not by counting. Assumes nothing.
+-- `text::input_room` meets its contract: the length of a repeat, by its law, not by counting. Assumes nothing.
 use mathlib.Core.Path.{_≡_, sym}
 use Prim.Native.Nat.{ℕ}
 use lib.ListN.{length, replicate, length-replicate}
-use Rattle.part_vectors.proofs.input_room.Statement.{statement}
-use Rattle.part_vectors.proofs.input_room.Tie as tie
+use Rattle.text.proofs.input_room.Statement.{statement}
+use Rattle.text.proofs.input_room.Tie as tie
 
 counted : (n : ℕ) → n ≡ length {A = ℕ} (replicate n 0)
 counted n = sym (length-replicate {A = ℕ} n 0)

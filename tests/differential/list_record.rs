@@ -1,0 +1,153 @@
+//! Writes a sample of short lists with the Rust's answers, for a program of the library that is run on them.
+//!
+//! Only lists on which document 01 and the Rust agree are taken: accepted and built, or refused and not built. The
+//! answers are the Rust's; the model only says which kind of list it is.
+
+use std::collections::{BTreeMap, HashSet};
+use std::path::Path;
+use std::process::ExitCode;
+
+use crate::list_cases::{self, Stuff};
+use crate::list_model::{self, List, work_words};
+use crate::oracle::Oracle;
+use crate::record;
+use crate::rng::Rng;
+
+/// Enough tries to fill every kind that can be filled.
+const TRIES: usize = 60_000;
+
+const MOST_RECORDS: usize = 12;
+
+#[derive(Default)]
+struct Sample {
+    oracle: Oracle,
+    /// How many lists of each kind have been taken.
+    kinds: BTreeMap<String, usize>,
+    lines: HashSet<String>,
+    asked: String,
+    answered: String,
+}
+
+pub fn run(seed: u64, into: &Path) -> ExitCode {
+    let mut sample = Sample::default();
+    sample.examples();
+    let mut rng = Rng::new(seed);
+    for _ in 0..TRIES {
+        sample.draw(&mut rng);
+    }
+    for (kind, count) in &sample.kinds {
+        println!("{count:5} {kind}");
+    }
+    println!("seed {seed}: {} lists", sample.lines.len());
+    record::write(into, &sample.asked, &sample.answered)
+}
+
+/// How many lists of a kind are taken. Each number of records is a kind of its own where a list is accepted.
+fn quota(number: u32, records: usize) -> usize {
+    match (number, records) {
+        (0, 0) => 10,
+        (0, _) => 32,
+        (1 | 2 | 3, _) => 16,
+        _ => 60,
+    }
+}
+
+impl Sample {
+    /// Document 01's own lists, as far as they are short.
+    fn examples(&mut self) {
+        let plain = [1, 0, 2, 4, 2, 3, 5, 4, 3, 0, 6, 12];
+        for bound in [1_024, 5, 1] {
+            self.take(&example(4, 4, bound, 0, &plain));
+        }
+        self.take(&example(4, 4, 1_024, 5, &[1, 5, 7, 4]));
+        self.take(&example(4, 4, 1_024, 6, &[1, 5, 7, 4]));
+        let repeats = [1, 0, 2, 4, 2, 0, 2, 8, 1, 2, 4, 4, 2, 2, 4, 8, 2, 0, 4, 20];
+        self.take(&example(3, 2, 2, 0, &repeats));
+        self.take(&example(4, 4, 1_024, 0, &[]));
+    }
+
+    /// A random list, good or damaged.
+    fn draw(&mut self, rng: &mut Rng) {
+        let stuff = Stuff {
+            types: rng.pick(&[1, 2, 5, 300, 65_536]),
+            start: rng.pick(&[0, 0, 3, 70_000]),
+            gap: rng.pick(&[0, 1, 3]),
+            length: rng.pick(&[0, 1, 8, 70_000]),
+        };
+        let shape = list_cases::any_shape(rng);
+        let records = rng.below(MOST_RECORDS + 1);
+        let mut words = list_cases::good_list(rng, &stuff, records, shape);
+        if rng.one_in(2) {
+            words = list_cases::damaged(rng, stuff.types, &words);
+        }
+        let types = stuff.types;
+        let mut list = List {
+            types,
+            first_repeat: rng.pick(&[0, types / 2, types - 1, types, types, types + 1]),
+            bound: rng.pick(&[0, 1, 5, 1_024, 65_535]),
+            start: stuff.start,
+            top: rng.below(types as usize) as u32,
+            words: &words,
+            work: 0,
+        };
+        match rng.below(30) {
+            0 => list.types = rng.pick(&[0, 65_537, u32::MAX]),
+            1 => list.bound = rng.pick(&[65_536, u32::MAX]),
+            2 => list.top = rng.pick(&[types, 65_535]),
+            3 => list.start = rng.pick(&[stuff.start + 1, u32::MAX]),
+            _ => {}
+        }
+        self.take(&list);
+    }
+
+    /// Takes a list on which both agree, unless its kind is full or it has been taken before.
+    fn take(&mut self, list: &List) {
+        let records = list.words.len() / 4;
+        let number = list_model::check(&List {
+            work: work_words(records),
+            ..*list
+        })
+        .number;
+        let built = self.oracle.build(list).is_ok();
+        if (number == 0) != built || records > MOST_RECORDS {
+            return;
+        }
+        let kind = match number {
+            0 => format!("taken, {records} records"),
+            _ => format!("refused with {number}"),
+        };
+        let count = self.kinds.entry(kind).or_default();
+        let asked = line(list);
+        if *count >= quota(number, records) || !self.lines.insert(asked.clone()) {
+            return;
+        }
+        *count += 1;
+        self.asked.push_str(&asked);
+        self.answered
+            .push_str(if built { "taken\n" } else { "refused\n" });
+    }
+}
+
+fn example(types: u32, first_repeat: u32, bound: u32, start: u32, words: &[u32]) -> List<'_> {
+    List {
+        types,
+        first_repeat,
+        bound,
+        start,
+        top: 0,
+        words,
+        work: 0,
+    }
+}
+
+fn line(list: &List) -> String {
+    format!(
+        "{} {} {} {} {}{}\n",
+        list.types,
+        list.first_repeat,
+        list.bound,
+        list.start,
+        list.top,
+        record::counted(list.words)
+    )
+}

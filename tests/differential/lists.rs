@@ -1,0 +1,198 @@
+//! The runs over the list check: short lists, all of them; random and damaged lists; long ones.
+
+use std::process::ExitCode;
+use std::time::Instant;
+
+use crate::list_cases::{self, Shape, Stuff};
+use crate::list_compare::ListSession;
+use crate::list_model::{self, List, work_words};
+use crate::list_short;
+use crate::rng::Rng;
+
+/// The most records that document 01 accepts.
+const MOST_RECORDS: usize = 1_048_576;
+
+const SHAPES: [Shape; 6] = [
+    Shape::Flat,
+    Shape::Chain,
+    Shape::Mixed(60, 5),
+    Shape::Mixed(90, 40),
+    Shape::Wide(999),
+    Shape::Binary,
+];
+
+/// Compares at least so many lists.
+pub fn run(seed: u64, cases: u64) -> ExitCode {
+    println!("seed {seed}, lists {cases} or more");
+    let mut session = ListSession::default();
+    let mut rng = Rng::new(seed);
+    timed(&mut session, "short lists, all of them", list_short::run);
+    timed(&mut session, "the longest lists", longest);
+    timed(&mut session, "long lists", |session| {
+        long(session, &mut rng)
+    });
+    timed(&mut session, "thousands of records", |session| {
+        thousands(session, &mut rng)
+    });
+    timed(&mut session, "random and damaged lists", |session| {
+        while session.tally.cases() < cases {
+            random(session, &mut rng);
+        }
+    });
+    session.tally.print();
+    if session.tally.unexplained() > 0 {
+        return ExitCode::FAILURE;
+    }
+    ExitCode::SUCCESS
+}
+
+fn timed(session: &mut ListSession, what: &str, work: impl FnOnce(&mut ListSession)) {
+    let (before, start) = (session.tally.cases(), Instant::now());
+    work(session);
+    let cases = session.tally.cases() - before;
+    println!(
+        "{what}: {cases} lists, {:.1} s",
+        start.elapsed().as_secs_f64()
+    );
+}
+
+/// One random list and damaged copies of it, each under numbers that are mostly good.
+fn random(session: &mut ListSession, rng: &mut Rng) {
+    let stuff = Stuff {
+        types: rng.pick(&[1, 2, 5, 300, 65_535, 65_536]),
+        start: rng.pick(&[0, 0, 1, 5, 70_000, u32::MAX - 30]),
+        gap: rng.pick(&[0, 1, 3]),
+        length: rng.pick(&[0, 1, 3, 20, 70_000]),
+    };
+    let most = rng.pick(&[4, 8, 12, 20, 40, 120]);
+    let records = rng.below(most + 1);
+    let shape = list_cases::any_shape(rng);
+    let words = list_cases::good_list(rng, &stuff, records, shape);
+    for _ in 0..4 {
+        session.check(&numbered(rng, &stuff, &words));
+    }
+    for _ in 0..8 {
+        let copy = list_cases::damaged(rng, stuff.types, &words);
+        session.check(&numbered(rng, &stuff, &copy));
+    }
+}
+
+/// A list under numbers of which one is bad now and then.
+fn numbered<'a>(rng: &mut Rng, stuff: &Stuff, words: &'a [u32]) -> List<'a> {
+    let types = stuff.types;
+    let need = work_words(words.len() / 4);
+    let first = words.get(1).copied().unwrap_or(0);
+    let repeats = [0, types / 2, types / 2, types - 1, types, types, u32::MAX];
+    let mut list = List {
+        types,
+        first_repeat: rng.pick(&repeats),
+        bound: rng.pick(&[0, 1, 2, 10, 1_024, 65_535]),
+        start: stuff.start,
+        top: rng.below(types as usize) as u32,
+        words,
+        work: need + rng.pick(&[0, 0, 0, 1, 50]),
+    };
+    match rng.below(80) {
+        0 => list.types = rng.pick(&[0, types - 1, types + 1, 65_537, u32::MAX]),
+        1 => list.bound = rng.pick(&[65_536, u32::MAX]),
+        2 => list.top = rng.pick(&[types, types - 1, 65_536, u32::MAX]),
+        3 => list.work = rng.pick(&[0, need - 1, need.saturating_sub(96)]),
+        4..10 => {
+            list.start = rng.pick(&[
+                first,
+                first.wrapping_add(1),
+                first.wrapping_sub(1),
+                u32::MAX,
+            ])
+        }
+        _ => {}
+    }
+    list
+}
+
+/// Forests of some thousands of records, deep and wide, and damaged copies.
+fn thousands(session: &mut ListSession, rng: &mut Rng) {
+    for shape in SHAPES {
+        for records in [1_500, 2_600, 4_000] {
+            let stuff = Stuff {
+                types: 300,
+                start: 10,
+                gap: 2,
+                length: 40,
+            };
+            let words = list_cases::good_list(rng, &stuff, records, shape);
+            session.check(&numbered(rng, &stuff, &words));
+            for _ in 0..12 {
+                let copy = list_cases::damaged(rng, stuff.types, &words);
+                session.check(&numbered(rng, &stuff, &copy));
+            }
+        }
+    }
+}
+
+/// Longer lists, which the model is too slow for: good ones, and copies with a fault of one record's own.
+fn long(session: &mut ListSession, rng: &mut Rng) {
+    for shape in SHAPES {
+        let stuff = Stuff {
+            types: 300,
+            start: 7,
+            gap: 2,
+            length: 9,
+        };
+        let records = 30_000;
+        let mut words = list_cases::good_list(rng, &stuff, records, shape);
+        let expected = list_model::accepted(records);
+        session.check_against(&plain(&stuff, &words), expected);
+        let at = records / 2 + rng.below(records / 2);
+        for (word, bad, number) in [
+            (0, 300, 6),
+            (1, u32::MAX, 7),
+            (3, 6, 8),
+            (3, u32::MAX - 3, 8),
+        ] {
+            let good = std::mem::replace(&mut words[at * 4 + word], bad);
+            let expected = list_model::refused(number, at);
+            session.check_against(&plain(&stuff, &words), expected);
+            words[at * 4 + word] = good;
+        }
+    }
+}
+
+/// A list under numbers with which the Rust packs little and so is not slow.
+fn plain<'a>(stuff: &Stuff, words: &'a [u32]) -> List<'a> {
+    List {
+        types: stuff.types,
+        first_repeat: stuff.types,
+        bound: 1,
+        start: stuff.start,
+        top: 0,
+        words,
+        work: work_words(words.len() / 4),
+    }
+}
+
+/// As many records as are accepted, and one more, side by side and in each other. All are longer than the bound, so
+/// that the Rust looks for no run.
+fn longest(session: &mut ListSession) {
+    for records in [MOST_RECORDS, MOST_RECORDS + 1] {
+        let expected = match records {
+            MOST_RECORDS => list_model::accepted(records),
+            _ => list_model::refused(5, 0),
+        };
+        for chain in [false, true] {
+            let words: Vec<u32> = (0..records as u32)
+                .flat_map(|number| match chain {
+                    true => [0, 0, 9, 4 * (number + 1)],
+                    false => [0, 9 * number, 9 * number + 9, 4],
+                })
+                .collect();
+            let stuff = Stuff {
+                types: 1,
+                start: 0,
+                gap: 0,
+                length: 0,
+            };
+            session.check_against(&plain(&stuff, &words), expected);
+        }
+    }
+}
