@@ -1,0 +1,99 @@
+-- The tree calls on document 01's first example, by computation: what is lent decides, and one word less is refused. Assumes
+-- nothing.
+use mathlib.Core.Path.{_≡_, refl}
+use mathlib.Core.List.{List, [], _∷_}
+use Prim.Native.Nat.{ℕ}
+use lib.ListN.{replicate}
+use Rattle.words.specs.Outcome.{accepted, refused, Result}
+use Rattle.part.specs.Part.{part-check, faults-from, fault, own-fault, crosses}
+use Rattle.records.specs.Forest.{line, below}
+use Rattle.tree.specs.Trees.{_⊕_, nodes, kids-of, siblings}
+use Rattle.tree.specs.Materialise.{within, beyond, unpack, materialise}
+use Rattle.tree.specs.Balance.{balanced}
+use Rattle.tree.specs.Listing.{node-line, node-below, listing, lines}
+use Rattle.tree.specs.Cells.{relative, absolute, packed, unless-none, kind, id-word, cells, leading, following, cell-tree, decode-from, decode, tree-cells}
+use Rattle.tree.specs.Calls.{written, materialise-cells, balance-cells, list-cells}
+use Rattle.rules.specs.Cell.{cells-of, first-child}
+use Rattle.rules.specs.PartLowest.{still, earliest, bound, ranges, part-kept}
+use Rattle.rules.specs.Lowest.{chain, chains, any-part, named, top-broken, kind-broken, id-broken, link-broken, count-broken, place-broken, order-broken, inside-broken, end-broken, part-broken, stray-broken, any-of, broken, next-named, first-named, words-end, lowest-from, top-named, bad-cell}
+use Rattle.rules.specs.Calls.{items, unless-bad, result-room, lines-room, handed-in, materialise-call, balance-call, list-call}
+
+-- the calls with all that it takes to compute them
+unfoldable materialised : (T : ℕ) (cs ws : List ℕ) (work : ℕ) (out : List ℕ) → Result
+unfolding bad-cell cells-of first-child chain chains any-part named top-broken kind-broken id-broken link-broken count-broken place-broken order-broken inside-broken end-broken part-broken stray-broken any-of broken next-named first-named words-end lowest-from top-named part-kept ranges bound earliest still part-check faults-from fault own-fault crosses items unless-bad result-room handed-in materialise-call _⊕_ nodes within beyond unpack materialise relative absolute packed unless-none kind id-word cells leading following cell-tree decode-from decode tree-cells siblings materialise-cells
+materialised T cs ws work out = materialise-call T cs ws work out
+
+unfoldable balances : (T : ℕ) (cs ws : List ℕ) (work : ℕ) (out words : List ℕ) → Result
+unfolding bad-cell cells-of first-child chain chains any-part named top-broken kind-broken id-broken link-broken count-broken place-broken order-broken inside-broken end-broken part-broken stray-broken any-of broken next-named first-named words-end lowest-from top-named part-kept ranges bound earliest still part-check faults-from fault own-fault crosses items unless-bad result-room handed-in balance-call nodes relative absolute packed unless-none kind id-word cells leading following cell-tree decode-from decode tree-cells siblings balanced balance-cells written
+balances T cs ws work out words = balance-call T cs ws work out words
+
+unfoldable listed : (T F S : ℕ) (cs : List ℕ) (work : ℕ) (out : List ℕ) → Result
+unfolding bad-cell cells-of first-child chain chains any-part named top-broken kind-broken id-broken link-broken count-broken place-broken order-broken inside-broken end-broken part-broken stray-broken any-of broken next-named first-named words-end lowest-from top-named part-kept ranges bound earliest still part-check faults-from fault own-fault crosses items unless-bad lines-room list-call absolute leading following cell-tree decode-from decode lines list-cells listing node-line node-below line below kids-of
+listed T F S cs work out = list-call T F S cs work out
+
+-- P with b 1,024 and with b 1
+abbrev part-cells : List ℕ
+part-cells = 1 ∷ 0 ∷ 0 ∷ 6 ∷ 2 ∷ 1 ∷ 0 ∷ 2 ∷ 0 ∷ 0 ∷ 6 ∷ 0 ∷ 12 ∷ 0 ∷ []
+
+abbrev part-words : List ℕ
+part-words = 3 ∷ 0 ∷ 6 ∷ 12 ∷ 1 ∷ 0 ∷ 2 ∷ 8 ∷ 2 ∷ 3 ∷ 5 ∷ 12 ∷ []
+
+abbrev tree-of-four : List ℕ
+tree-of-four = 1 ∷ 0 ∷ 0 ∷ 6 ∷ 2 ∷ 1 ∷ 0 ∷ 1 ∷ 3 ∷ 0 ∷ 6 ∷ 3 ∷ 2 ∷ 0 ∷ 1 ∷ 1 ∷ 0 ∷ 2 ∷ 0 ∷ 0 ∷ 4 ∷ 1 ∷ 2 ∷ 3 ∷ 2 ∷ 0 ∷ 0 ∷ 0 ∷ []
+
+-- two cells and a quarter of twelve words are five items: 576 words of work
+part-unpacked : materialised 4 part-cells part-words 576 (replicate 29 9) ≡ record {
+  outcome = accepted (4 ∷ 0 ∷ []);
+  outputs = (1 ∷ 0 ∷ 0 ∷ 6 ∷ 2 ∷ 1 ∷ 0 ∷ 1 ∷ 3 ∷ 0 ∷ 6 ∷ 3 ∷ 2 ∷ 0 ∷ 1 ∷ 1 ∷ 0 ∷ 2 ∷ 0 ∷ 0 ∷ 4 ∷ 1 ∷ 2 ∷ 3 ∷ 2 ∷ 0 ∷ 0 ∷ 0 ∷ 9 ∷ []) ∷ [];
+}
+unfolding materialised
+part-unpacked = refl
+
+work-short : materialised 4 part-cells part-words 575 (replicate 28 9) ≡ record { outcome = refused 11 0; outputs = replicate 28 9 ∷ [] }
+unfolding materialised
+work-short = refl
+
+cells-short : materialised 4 part-cells part-words 576 (replicate 27 9) ≡ record { outcome = refused 12 0; outputs = replicate 27 9 ∷ [] }
+unfolding materialised
+cells-short = refl
+
+-- a quarter of thirteen words is three; 15 comes after 11, and 1 before both
+quarter-down : materialised 4 part-cells (3 ∷ 0 ∷ 6 ∷ 12 ∷ 1 ∷ 0 ∷ 2 ∷ 8 ∷ 2 ∷ 3 ∷ 5 ∷ 12 ∷ 0 ∷ []) 576 [] ≡ record { outcome = refused 15 2; outputs = [] ∷ [] }
+unfolding materialised
+quarter-down = refl
+
+work-before-cells : materialised 4 part-cells (0 ∷ []) 287 [] ≡ record { outcome = refused 11 0; outputs = [] ∷ [] }
+unfolding materialised
+work-before-cells = refl
+
+types-first : materialised 65537 [] [] 0 [] ≡ record { outcome = refused 1 0; outputs = [] ∷ [] }
+unfolding materialised
+types-first = refl
+
+-- up to 8 children are left as they are, and the packed words are written
+few-children : balances 4 part-cells part-words 576 (replicate 15 9) (replicate 12 9) ≡ record {
+  outcome = accepted (2 ∷ 12 ∷ []);
+  outputs = (1 ∷ 0 ∷ 0 ∷ 6 ∷ 2 ∷ 1 ∷ 0 ∷ 2 ∷ 0 ∷ 0 ∷ 6 ∷ 0 ∷ 12 ∷ 0 ∷ 9 ∷ []) ∷ part-words ∷ [];
+}
+unfolding balances
+few-children = refl
+
+words-short : balances 4 part-cells part-words 576 (replicate 14 9) (replicate 11 9) ≡ record { outcome = refused 13 0; outputs = replicate 14 9 ∷ replicate 11 9 ∷ [] }
+unfolding balances
+words-short = refl
+
+-- three lines with S added; a part is refused, whatever its words
+three-lines : listed 4 4 10 tree-of-four 480 (replicate 13 9) ≡ record {
+  outcome = accepted (3 ∷ []);
+  outputs = (0 ∷ 3 ∷ 10 ∷ 16 ∷ 1 ∷ 1 ∷ 10 ∷ 12 ∷ 1 ∷ 2 ∷ 13 ∷ 15 ∷ 9 ∷ []) ∷ [];
+}
+unfolding listed
+three-lines = refl
+
+lines-short : listed 4 4 0 tree-of-four 480 (replicate 11 9) ≡ record { outcome = refused 14 0; outputs = replicate 11 9 ∷ [] }
+unfolding listed
+lines-short = refl
+
+no-part-listed : listed 4 4 0 part-cells 480 [] ≡ record { outcome = refused 15 2; outputs = [] ∷ [] }
+unfolding listed
+no-part-listed = refl

@@ -1,0 +1,69 @@
+-- The outcome of the calls that take a tree: materialise, balance and list. "Tree calls: 1, 11, 15, 12, 13, 14." Refused, the
+-- output slices are unchanged; accepted, only the counted front of each is written. What the work slice held decides nothing;
+-- `work` is its length.
+use mathlib.Core.Bool.{Bool, true, false, cond}
+use mathlib.Core.List.{List, [], _∷_}
+use Prim.Native.Nat.{ℕ, _+_, _*_, _/_}
+use lib.Dec.{ltb}
+use lib.ListN.{length}
+use Rattle.words.specs.Outcome.{Outcome, accepted, refused, unless-found, Result, settled}
+use Rattle.words.specs.Words.{front}
+use Rattle.tree.specs.Trees.{Trees, nodes}
+use Rattle.tree.specs.Materialise.{materialise}
+use Rattle.tree.specs.Balance.{balanced}
+use Rattle.tree.specs.Cells.{cell-width, absolute, decode}
+use Rattle.tree.specs.Calls.{materialise-cells, balance-cells, list-cells}
+use Rattle.rules.specs.Lowest.{bad-cell}
+
+-- "listing lines (four words each)"
+abbrev pub line-width : ℕ
+line-width = 4
+
+-- "items are .. whole cells plus a quarter (rounded down) of the packed words in tree calls"
+unfoldable pub items : (cs ws : List ℕ) → ℕ
+items cs ws = length cs / cell-width + length ws / 4
+
+-- "1: T above 65,536"; "11: work slice below 96 × items + 96 words"; 15, at the lowest cell that breaks a rule; then what follows.
+-- Absolute ends are counted from S; `parts`: are parts allowed?
+unfoldable pub unless-bad : (T S : ℕ) (parts : Bool) (cs ws : List ℕ) (work : ℕ) → Outcome → Outcome
+unless-bad T S parts cs ws work next =
+    cond (ltb 65536 T) (refused 1 0)
+    (cond (ltb work (96 * items cs ws + 96)) (refused 11 0)
+    (unless-found 15 (λ c. c) (bad-cell T S parts cs ws) next))
+
+-- "12, 13: too little space for the result's cells (seven words each), packed words": of a result of n cells and w words, in slices
+-- of `cells` and `words` words; else the counts. Cells are named by 32-bit words. A result of more cells than these can number has no
+-- cells at all, so no slice has the space for it: 12.
+unfoldable pub result-room : (n w cells words : ℕ) → Outcome
+result-room n w cells words =
+    cond (ltb 4294967295 n) (refused 12 0)
+    (cond (ltb cells (cell-width * n)) (refused 12 0)
+    (cond (ltb words w) (refused 13 0)
+    (accepted (n ∷ w ∷ []))))
+
+-- "14: too little space for the result's listing lines": of lines of n words in all, in a slice of `out` words; else their count
+unfoldable pub lines-room : (n out : ℕ) → Outcome
+lines-room n out = cond (ltb out n) (refused 14 0) (accepted (n / line-width ∷ []))
+
+-- the trees of accepted cells, from 0
+unfoldable pub handed-in : (cs ws : List ℕ) → Trees
+handed-in cs ws = absolute 0 (decode ws cs)
+
+-- Materialise: no packed words are written, so there is one output, and 13 cannot occur. `out` is what it held before.
+unfoldable pub materialise-call : (T : ℕ) (cs ws : List ℕ) (work : ℕ) (out : List ℕ) → Result
+materialise-call T cs ws work out =
+    settled (unless-bad T 0 true cs ws work (result-room (nodes (materialise (handed-in cs ws))) 0 (length out) 0))
+    (front (materialise-cells cs ws) out ∷ []) (out ∷ [])
+
+-- Balance: `cells` and `words` are what its outputs held before.
+unfoldable pub balance-call : (T : ℕ) (cs ws : List ℕ) (work : ℕ) (cells words : List ℕ) → Result
+balance-call T cs ws work cells words =
+    let w = balance-cells cs ws in
+    settled (unless-bad T 0 true cs ws work (result-room (nodes (balanced (handed-in cs ws))) (length (w .words)) (length cells) (length words)))
+    (front (w .cells) cells ∷ front (w .words) words ∷ []) (cells ∷ words ∷ [])
+
+-- List: it takes no packed words and no cell of kind 2, and absolute ends are counted from S.
+unfoldable pub list-call : (T F S : ℕ) (cs : List ℕ) (work : ℕ) (out : List ℕ) → Result
+list-call T F S cs work out =
+    settled (unless-bad T S false cs [] work (lines-room (length (list-cells F S cs)) (length out)))
+    (front (list-cells F S cs) out ∷ []) (out ∷ [])

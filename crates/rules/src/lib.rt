@@ -1,0 +1,1 @@
+// The cell rules of document 01: definitions and proofs only.
