@@ -1,0 +1,275 @@
+//! The Rust's answers on lists and trees, as cases for antt.
+
+use std::collections::HashMap;
+use std::fmt;
+use std::sync::Arc;
+
+use crate::antt::{self, Case};
+use crate::flatten::{Flat, flatten, lines, outline};
+use crate::lists::List;
+use crate::rezel;
+use crate::rezel::tree::{NodeSet, Tree, TreeBuild, TreeChild};
+use crate::trees::Sample;
+use crate::{NodeType, TextSize};
+
+/// What a case is about.
+#[derive(Clone)]
+pub enum Input {
+    List(List),
+    /// A list inside so many records of id 0, each in the next.
+    Deep(List, usize),
+    Wide(Wide),
+    Tree(Sample),
+}
+
+/// Many empty records of one id and a list behind them, all in one record of the id `parent`, inside so many records of
+/// id 0.
+#[derive(Clone)]
+pub struct Wide {
+    pub list: List,
+    pub around: usize,
+    pub empties: usize,
+    pub id: u32,
+    pub parent: u32,
+}
+
+/// The records around a deep list are at least this long: longer than a packed record can be.
+const LONG: u32 = 70_000;
+
+impl fmt::Display for Input {
+    fn fmt(&self, out: &mut fmt::Formatter<'_>) -> fmt::Result {
+        match self {
+            Self::List(list) => write!(out, "{list}"),
+            Self::Deep(list, around) => {
+                let end = end_around(list);
+                write!(out, "{list} inside {around} records (0,0,{end},..)")
+            }
+            Self::Wide(wide) => write!(out, "{wide}"),
+            Self::Tree(sample) => write!(out, "{sample}"),
+        }
+    }
+}
+
+impl fmt::Display for Wide {
+    fn fmt(&self, out: &mut fmt::Formatter<'_>) -> fmt::Result {
+        let (end, list) = (end_around(&self.list), &self.list);
+        write!(out, "{list} behind {} records ", self.empties)?;
+        write!(
+            out,
+            "({},0,0,4), all in ({},0,{end},..) ",
+            self.id, self.parent
+        )?;
+        write!(out, "inside {} records (0,0,{end},..)", self.around)
+    }
+}
+
+fn end_around(list: &List) -> u32 {
+    list.forest.last().map_or(0, |node| node.end).max(LONG)
+}
+
+/// What the cases of a run held, to see that no shape is missing.
+#[derive(Default)]
+pub struct Seen {
+    records: usize,
+    parts: usize,
+    grouped: usize,
+    balanced_builds: usize,
+    balanced_trees: usize,
+}
+
+impl fmt::Display for Seen {
+    fn fmt(&self, out: &mut fmt::Formatter<'_>) -> fmt::Result {
+        let Self {
+            records,
+            parts,
+            grouped,
+            balanced_builds,
+            balanced_trees,
+        } = self;
+        write!(
+            out,
+            "{records} records, {parts} parts, {grouped} lists with groups, "
+        )?;
+        write!(out, "{balanced_builds} lists with inner trees, ")?;
+        write!(out, "{balanced_trees} trees that balancing changes")
+    }
+}
+
+/// The Rust, and what it was asked.
+#[derive(Default)]
+pub struct Rust {
+    sets: HashMap<u32, Arc<NodeSet>>,
+    pub seen: Seen,
+    /// Inputs on which it panics although they are accepted, or lists another reading.
+    pub wrong: Vec<String>,
+}
+
+impl Rust {
+    pub fn set(&mut self, types: u32) -> Arc<NodeSet> {
+        let set = self.sets.entry(types);
+        Arc::clone(set.or_insert_with(|| rezel::node_set(types)))
+    }
+
+    /// The case of an input; none where the Rust panics, which is noted.
+    pub fn case(&mut self, input: Input) -> Option<Case> {
+        let claim = match &input {
+            Input::List(list) => self.list(list),
+            Input::Deep(list, around) => self.deep(list, *around),
+            Input::Wide(wide) => self.wide(wide),
+            Input::Tree(sample) => Some(self.tree(sample)),
+        };
+        if claim.is_none() {
+            self.wrong.push(format!("the Rust panics: {input}"));
+        }
+        claim.map(|claim| Case { claim, input })
+    }
+
+    /// The tree that the Rust builds of records; none where it panics.
+    fn build(&mut self, list: &List, records: Vec<u32>) -> Option<Tree> {
+        let mut build = TreeBuild::new(records, self.set(list.types), list.top as u16);
+        build.start = TextSize::new(list.start);
+        build.length = list.given.map(TextSize::new);
+        build.max_buffer_length = TextSize::new(list.bound);
+        build.min_repeat_type = list.first_repeat as usize;
+        rezel::build(&build)
+    }
+
+    /// A run on a list: build, materialise, list.
+    fn list(&mut self, list: &List) -> Option<String> {
+        let records = list.records();
+        let tree = self.build(list, records.clone())?;
+        let flat = flatten(&tree);
+        self.note(list, &records, &tree);
+        let materialised = tree.materialize();
+        let listed = lines(&materialised, list.first_repeat, list.start);
+        if listed != list.reading() {
+            self.wrong.push(format!("the Rust reads otherwise: {list}"));
+        }
+        let (types, first, bound) = (list.types, list.first_repeat, list.bound);
+        let (start, top) = (list.start, list.top);
+        let given = list
+            .given
+            .map_or("none".into(), |at| format!("(some {at})"));
+        Some(format!(
+            "list-answer {types} {first} {bound} {start} {top} {given} {}\n    ≡ list-rust {} {} {} {} {}",
+            antt::list(&records),
+            records.len() / 4,
+            antt::list(&flat.cells),
+            antt::list(&flat.words),
+            antt::list(&flatten(&materialised).cells),
+            antt::list(&listed),
+        ))
+    }
+
+    fn note(&mut self, list: &List, records: &[u32], tree: &Tree) {
+        self.seen.records += records.len() / 4;
+        self.seen.parts += parts(&flatten(tree));
+        let nesting = own_nesting(tree, list.first_repeat, None, 0);
+        self.seen.grouped += usize::from(nesting > 0);
+        self.seen.balanced_builds += usize::from(nesting > 1);
+    }
+
+    /// A run on a list below the depth where parts are flat.
+    fn deep(&mut self, list: &List, around: usize) -> Option<String> {
+        let end = end_around(list);
+        let mut records = list.records();
+        put_around(&mut records, 0, end, around);
+        let tree = self.build(list, records.clone())?;
+        self.note(list, &records, &tree);
+        let flat = flatten(&tree);
+        let materialised = tree.materialize();
+        let listed = lines(&materialised, list.first_repeat, 0);
+        Some(format!(
+            "deep-answer {} {} {around} {end} {}\n    ≡ {} ∷ {} ∷ {} ∷ {} ∷ []",
+            list.first_repeat,
+            list.bound,
+            antt::list(list.records()),
+            antt::list(behind_chain(&flat, around, end)),
+            antt::list(&flat.words),
+            antt::list(behind_chain(&flatten(&materialised), around, end)),
+            antt::list(&listed[around * 4 - 4..]),
+        ))
+    }
+
+    /// The outline of a build at the limits of 16,383 records.
+    fn wide(&mut self, wide: &Wide) -> Option<String> {
+        let Wide {
+            list,
+            around,
+            empties,
+            id,
+            parent,
+        } = wide;
+        let end = end_around(list);
+        let mut records = [*id, 0, 0, 4].repeat(*empties);
+        records.extend(list.records());
+        put_around(&mut records, *parent, end, 1);
+        put_around(&mut records, 0, end, *around);
+        let tree = self.build(list, records.clone())?;
+        self.note(list, &records, &tree);
+        let rest = behind_chain(&flatten(&tree), *around, end).len() / 7;
+        let outline = outline(&tree);
+        Some(format!(
+            "wide-answer {} {} {around} {end} {empties} {id} {parent} {}\n    ≡ {}",
+            list.first_repeat,
+            list.bound,
+            antt::list(list.records()),
+            antt::list(&outline[outline.len() - rest * 5..]),
+        ))
+    }
+
+    /// A tree as it is, balanced, materialised, and then listed.
+    fn tree(&mut self, sample: &Sample) -> String {
+        let flat = flatten(&sample.tree);
+        let balanced = flatten(&sample.tree.balance());
+        self.seen.parts += parts(&flat);
+        self.seen.balanced_trees += usize::from(balanced != flat);
+        let materialised = sample.tree.materialize();
+        let (types, first, start) = (sample.types, sample.first_repeat, sample.start);
+        let (cells, words) = (antt::list(&flat.cells), antt::list(&flat.words));
+        format!(
+            "tree-answer {types} {first} {start} {cells} {words}\n    ≡ tree-rust {cells} {words} {} {} {} {}",
+            antt::list(&balanced.cells),
+            antt::list(&balanced.words),
+            antt::list(&flatten(&materialised).cells),
+            antt::list(lines(&materialised, first, start)),
+        )
+    }
+}
+
+/// Puts so many records of one id and range around all of a list.
+fn put_around(records: &mut Vec<u32>, id: u32, end: u32, around: usize) {
+    for _ in 0..around {
+        records.extend([id, 0, end, records.len() as u32 + 4]);
+    }
+}
+
+fn parts(flat: &Flat) -> usize {
+    flat.cells.chunks(7).filter(|cell| cell[0] == 2).count()
+}
+
+/// How deep trees of one repeat id stand directly in each other: 1 for groups, more for inner trees.
+fn own_nesting(tree: &Tree, first_repeat: u32, around: Option<&NodeType>, depth: usize) -> usize {
+    let kind = tree.node_type();
+    let repeat = u32::from(kind.id()) >= first_repeat;
+    let depth = match around {
+        Some(other) if repeat && other.is(kind) => depth + 1,
+        _ => 0,
+    };
+    let kids = tree.children().iter().filter_map(|child| match child {
+        TreeChild::Tree(kid) => Some(kid),
+        TreeChild::Buffer(_) => None,
+    });
+    kids.map(|kid| own_nesting(kid, first_repeat, Some(kind), depth))
+        .fold(depth, usize::max)
+}
+
+/// The cells behind so many of id 0 and one range, each the only child of the one before: these are held to that.
+fn behind_chain(flat: &Flat, around: usize, end: u32) -> &[u64] {
+    let (front, rest) = flat.cells.split_at(around * 7);
+    for (index, cell) in front.chunks(7).enumerate() {
+        let next = index as u64 + 2;
+        assert_eq!(cell, [1, 0, 0, end.into(), next, 1, 0], "no chain of trees");
+    }
+    rest
+}
