@@ -1,0 +1,5 @@
+pub mod Opens
+pub mod Turns
+pub mod Begins
+pub mod Writes
+pub mod Cases
