@@ -20,9 +20,9 @@ pub record Placed (held : List ℕ) (n top limit c : ℕ) : Type 0 where
   pub links : top ≡ 0 → ⊥
   pub at-cell : getD held (n + (top - 1) * 4) 0 ≡ c
 
-pub in-its-place : (held : List ℕ) (n top limit c : ℕ) → in-place held n top limit c ≡ true → Placed held n top limit c
+pub in-its-place : {held : List ℕ} {n top limit c : ℕ} → in-place held n top limit c ≡ true → Placed held n top limit c
 unfolding in-place
-in-its-place held n top limit c h =
+in-its-place {held} {n} {top} {limit} {c} h =
     let (a, h₁) = both (not (eqb c limit)) _ h in
     let (b, e) = both (not (eqb top 0)) _ h₁ in
     record {
@@ -31,7 +31,7 @@ in-its-place held n top limit c h =
       at-cell = eqb-true (getD held (n + (top - 1) * 4) 0) c e;
     }
 
-module _ (T : ℕ) (parts : Bool) (ws : List ℕ) (n S : ℕ) (cs : List ℕ) (q : n * 7 ≡ length cs) (held : List ℕ) (i w top limit : ℕ)
+module _ {T : ℕ} {parts : Bool} {ws : List ℕ} {n S : ℕ} {cs held : List ℕ} {i w top limit : ℕ} (q : n * 7 ≡ length cs)
     (s : Walk T parts ws n S cs held i w top limit) (below : i < n) where
   pub misplaced : in-place held n top limit (i + 1) ≡ false → i + 1 ≡ whole T parts ws n S cs
   unfolding in-place
@@ -45,7 +45,7 @@ module _ (T : ℕ) (parts : Bool) (ws : List ℕ) (n S : ℕ) (cs : List ℕ) (q
           walk-place T parts ws n S cs q held i w top limit s below z (eqb-false (getD held (n + (top - 1) * 4) 0) (i + 1) not-here)
 
   -- the link and the cell that were read
-  module _ (after within base last : ℕ) (k : Cell) (link : Read-link held (n + (top - 1) * 4) after within base) (read : k ≡ cell-at cs i)
+  module _ {after within base last : ℕ} {k : Cell} (link : Read-link held (n + (top - 1) * 4) after within base) (read : k ≡ cell-at cs i)
       (final : Last cs n last) (small : cell-at cs i .len < 4294967296) (at : Placed held n top limit (i + 1)) where
     abbrev p : ℕ
     p = n + (top - 1) * 4

@@ -43,7 +43,7 @@ struct Link {
     base: u32,
 }
 
-// The open links: how many there are, and the lowest cell that two of them name or that a later one passes over.
+// The open links: how many there are, and the lowest cell that is sure to be out of place, one past the last cell for none.
 struct Names {
     top: usize,
     limit: usize,
@@ -425,7 +425,8 @@ fn cell_broken(
     stray_broken(words.len(), g, i, k)
 }
 
-// The limit after a link to cell x is put on.
+// The limit after a link to cell x is put on. If the link below it names a cell m up to x, then m is out of place: at its turn
+// the link to x is still open above it. So no search through the links is needed.
 fn lower(work: &[u32], n: usize, s: Names, x: u32) -> usize
     requires { ⌜ n + s .top * 4 ≤ length (now work) ⌝ }
     ensures { λ r. ⌜ r ≡ lowered (now (work .entry)) n (s .top) (s .limit) x ⌝ }

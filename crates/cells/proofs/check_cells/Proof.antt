@@ -3,13 +3,13 @@
 use borrow.Author.Needs.{needs}
 use denote.Ref.{now}
 use mathlib.Core.Path.{_≡_, refl, sym, _∙_}
-use Prim.Native.Nat.{_+_, _-_, _*_, _≤_}
+use Prim.Native.Nat.{_+_, _-_, _*_, _≤_, _<_}
 use native.Mathlib.Omega.{arith}
 use lib.ListN.{length}
 use borrow.Author.Tests.{not-true, not-false}
-use Rattle.cells.specs.Read.{cell-of}
+use Rattle.cells.specs.Steps.{cell-at}
 use Rattle.cells.proofs.Walking.{Walk, walk-start, walk-end}
-use Rattle.cells.proofs.Passing.{in-its-place, misplaced, breaks, fitting, passes}
+use Rattle.cells.proofs.Passing.{Placed, in-its-place, misplaced, breaks, fitting, passes}
 use Rattle.cells.proofs.check_cells.Statement.{statement}
 use Rattle.cells.proofs.check_cells.Tie as tie
 
@@ -19,114 +19,109 @@ Inv-loop cells words g start work₀ n at s₀ w₀ i₀ work s w i = (i ≤ g .
 abbrev μ-loop : tie.MeasureT-loop
 μ-loop cells words g start work₀ n at s₀ w₀ i₀ work s w i = g .n - i
 
+-- in the loop, before cell i + 1
+module _ (l : tie.In-loop Inv-loop μ-loop) where
+  abbrev z₁ : tie.Start Inv-loop μ-loop
+  z₁ = l .before .before .before .before .before .before .before .before .before
+
+  abbrev v₁ : tie.At-loop Inv-loop μ-loop
+  v₁ = l .before
+
+  part-room : z₁ .args .g .n * 5 + 8 + length (now (z₁ .args .words)) ≤ length (v₁ .loop .work)
+  part-room = omega (arith, z₁ .pre .room, v₁ .loop .inv .1, l .before .before .before .before .name-if .kept)
+
+  -- for the open links and two more
+  link-room : z₁ .args .g .n + v₁ .loop .s .top * 4 + 8 ≤ length (v₁ .loop .work)
+  link-room = omega (arith, part-room, v₁ .loop .inv .2 .few, l .loop-test .taken)
+
+-- where the cell is in its place
+module _ (e : tie.Else1 Inv-loop μ-loop) where
+  abbrev l₂ : tie.In-loop Inv-loop μ-loop
+  l₂ = e .before .before .before
+
+  at₂ : Placed (v₁ l₂ .loop .work) (z₁ l₂ .args .g .n) (v₁ l₂ .loop .s .top) (v₁ l₂ .loop .s .limit) (v₁ l₂ .loop .i + 1)
+  at₂ = in-its-place (sym (e .before .placed .ensures) ∙ not-false _ (e .if1 .left))
+
+-- once the link and the cell are read
+module _ (r : tie.After-read-cell Inv-loop μ-loop) where
+  abbrev e₃ : tie.Else1 Inv-loop μ-loop
+  e₃ = r .before .before .before
+
+  abbrev l₃ : tie.In-loop Inv-loop μ-loop
+  l₃ = l₂ e₃
+
+  small₃ : cell-at (now (z₁ l₃ .args .cells)) (v₁ l₃ .loop .i) .len < 4294967296
+  small₃ = omega (arith, l₃ .before .before .before .before .before .before .before .before .shared-slice-known .given (v₁ l₃ .loop .i * 7 + 3))
+
 name-if-requires : tie.Need-name-if-requires Inv-loop μ-loop
 name-if-requires c κs = omega (arith, c .before .before .before .before .pre .room)
 
 loop-holds : tie.Need-loop-holds Inv-loop μ-loop
 loop-holds c =
-    let a = c .before .before .before .before .before .before .before .args in
-    let p = c .before .before .before .before .before .before .before .pre in
-    let f = c .before .before .name-if in
-    (omega arith, refl, walk-start (a .g .types) (a .g .parts) (now (a .words)) (a .g .n) (a .start) (now (a .cells)) (now (a .work)) (f .last .0) (f .result .top) (f .result .limit) (p .lengths) (f .ensures))
+    let z = c .before .before .before .before .before .before .before in
+    (omega arith, refl, walk-start _ _ _ _ _ _ _ _ _ _ (z .pre .lengths) (c .before .before .name-if .ensures))
 
 placed-requires : tie.Need-placed-requires Inv-loop μ-loop
-placed-requires c κs =
-    let p = c .before .before .before .before .before .before .before .before .before .before .pre in
-    let f = c .before .before .before .before .before .name-if in
-    let v = c .before .before .loop in
-    omega (arith, p .room, v .inv .1, v .inv .2 .few, c .before .loop-test .taken, f .kept)
+placed-requires c κs = omega (arith, link-room (c .before))
 
 returns : tie.Need-returns Inv-loop μ-loop
 returns c =
-    let a = c .before .before .before .before .before .before .before .before .before .before .before .before .args in
-    let p = c .before .before .before .before .before .before .before .before .before .before .before .before .pre in
-    let v = c .before .before .before .before .loop in
-    misplaced (a .g .types) (a .g .parts) (now (a .words)) (a .g .n) (a .start) (now (a .cells)) (p .cells) (v .work) (v .i) (v .w) (v .s .top) (v .s .limit) (v .inv .2) (c .before .before .before .loop-test .taken) (sym (c .before .placed .ensures) ∙ not-true _ (c .if1 .taken))
+    let l = c .before .before .before in
+    misplaced (z₁ l .pre .cells) (v₁ l .loop .inv .2) (l .loop-test .taken) (sym (c .before .placed .ensures) ∙ not-true _ (c .if1 .taken))
 
 read-link-requires : tie.Need-read-link-requires Inv-loop μ-loop
 read-link-requires c κs =
-    let a = c .before .before .before .before .before .before .before .before .before .before .before .before .before .args in
-    let p = c .before .before .before .before .before .before .before .before .before .before .before .before .before .pre in
-    let f = c .before .before .before .before .before .before .before .before .name-if in
-    let v = c .before .before .before .before .before .loop in
-    let at = (in-its-place (v .work) (a .g .n) (v .s .top) (v .s .limit) (v .i + 1) (sym (c .before .before .placed .ensures) ∙ not-false _ (c .before .if1 .left))) in (omega (arith, at .links), omega (arith, p .room, v .inv .1, v .inv .2 .few, c .before .before .before .before .loop-test .taken, f .kept))
+    let e = c .before in
+    (omega (arith, at₂ e .links), omega (arith, link-room (l₂ e)))
 
 read-cell-requires : tie.Need-read-cell-requires Inv-loop μ-loop
 read-cell-requires c κs =
-    let p = c .before .before .before .before .before .before .before .before .before .before .before .before .before .before .pre in
-    let t = c .before .before .before .before .before .loop-test in
-    omega (arith, p .cells, t .taken)
+    let l = l₂ (c .before .before) in
+    omega (arith, z₁ l .pre .cells, l .loop-test .taken)
 
 cell-broken-requires : tie.Need-cell-broken-requires Inv-loop μ-loop
 cell-broken-requires c κs =
-    let p = c .before .before .before .before .before .before .before .before .before .before .before .before .before .before .before .before .pre in
-    let f = c .before .before .before .before .before .before .before .before .before .before .before .name-if in
-    let v = c .before .before .before .before .before .before .before .before .loop in
-    let t = c .before .before .before .before .before .before .before .loop-test in
-    ((t .taken, omega arith), (omega (arith, p .room, v .inv .1, v .inv .2 .few, t .taken, f .kept), p .types))
+    let l = l₃ (c .before) in
+    ((l .loop-test .taken, omega arith), (omega (arith, part-room l), z₁ l .pre .types))
 
 returns-2 : tie.Need-returns-2 Inv-loop μ-loop
 returns-2 c =
-    let a = c .before .before .before .before .before .before .before .before .before .before .before .before .before .before .before .before .before .before .before .before .args in
-    let p = c .before .before .before .before .before .before .before .before .before .before .before .before .before .before .before .before .before .before .before .before .pre in
-    let v = c .before .before .before .before .before .before .before .before .before .before .before .before .loop in
-    let t = c .before .before .before .before .before .before .before .before .before .before .before .loop-test in
-    let at = c .before .before .before .before .before .before .before .before .before .placed in
-    let i1 = c .before .before .before .before .before .before .before .before .if1 in
-    let d = c .before .before .before .before .before .before .read-link in
-    let k = c .before .before .before .before .before .read-cell in
-    breaks (a .g .types) (a .g .parts) (now (a .words)) (a .g .n) (a .start) (now (a .cells)) (p .cells) (v .work) (v .i) (v .w) (v .s .top) (v .s .limit) (v .inv .2) (t .taken) (d .result .after) (d .result .within) (d .result .base) (a .g .last) (cell-of (k .result)) (d .ensures) (k .ensures) (p .final) (omega (arith, c .before .before .before .before .before .before .before .before .before .before .before .before .before .before .before .before .before .before .before .shared-slice-known .given (v .i * 7 + 3))) (in-its-place (v .work) (a .g .n) (v .s .top) (v .s .limit) (v .i + 1) (sym (at .ensures) ∙ not-false _ (i1 .left))) (sym (c .before .before .before .cell-broken .ensures .0) ∙ c .if2 .taken)
+    let r = c .before .before .before .before .before in
+    let l = l₃ r in
+    breaks (z₁ l .pre .cells) (v₁ l .loop .inv .2) (l .loop-test .taken) (r .before .read-link .ensures) (r .read-cell .ensures) (z₁ l .pre .final) (small₃ r) (at₂ (e₃ r))
+    (sym (c .before .before .before .cell-broken .ensures .0) ∙ c .if2 .taken)
 
 sub-t29 : tie.Need-sub-t29 Inv-loop μ-loop
-sub-t29 c =
-    let a = c .before .before .before .before .before .before .before .before .before .before .before .before .before .before .before .before .before .before .before .before .before .args in
-    let v = c .before .before .before .before .before .before .before .before .before .before .before .before .before .loop in
-    let i1 = c .before .before .before .before .before .before .before .before .before .if1 in
-    let at = (in-its-place (v .work) (a .g .n) (v .s .top) (v .s .limit) (v .i + 1) (sym (c .before .before .before .before .before .before .before .before .before .before .placed .ensures) ∙ not-false _ (i1 .left))) in omega (arith, at .links)
+sub-t29 c = omega (arith, at₂ (c .before .before .before .before .before .before .before .before .before) .links)
 
 push-names-requires : tie.Need-push-names-requires Inv-loop μ-loop
 push-names-requires c κs =
-    let p = c .before .before .before .before .before .before .before .before .before .before .before .before .before .before .before .before .before .before .before .before .before .before .pre in
-    let a = c .before .before .before .before .before .before .before .before .before .before .before .before .before .before .before .before .before .before .before .before .before .before .args in
-    let f = c .before .before .before .before .before .before .before .before .before .before .before .before .before .before .before .before .before .name-if in
-    let v = c .before .before .before .before .before .before .before .before .before .before .before .before .before .before .loop in
-    let t = c .before .before .before .before .before .before .before .before .before .before .before .before .before .loop-test in
-    let at = c .before .before .before .before .before .before .before .before .before .before .before .placed in
-    let i1 = c .before .before .before .before .before .before .before .before .before .before .if1 in
-    let d = c .before .before .before .before .before .before .before .before .read-link in
-    let k = c .before .before .before .before .before .before .before .read-cell in
-    let b = c .before .before .before .before .before .cell-broken in
-    (omega (arith, p .room, v .inv .1, v .inv .2 .few, t .taken, f .kept, b .kept), fitting (a .g .types) (a .g .parts) (now (a .words)) (a .g .n) (a .start) (now (a .cells)) (p .cells) (v .work) (v .i) (v .w) (v .s .top) (v .s .limit) (v .inv .2) (t .taken) (d .result .after) (d .result .within) (d .result .base) (a .g .last) (cell-of (k .result)) (d .ensures) (k .ensures) (p .final) (omega (arith, c .before .before .before .before .before .before .before .before .before .before .before .before .before .before .before .before .before .before .before .before .before .shared-slice-known .given (v .i * 7 + 3))) (in-its-place (v .work) (a .g .n) (v .s .top) (v .s .limit) (v .i + 1) (sym (at .ensures) ∙ not-false _ (i1 .left))) (sym (b .ensures .0) ∙ c .before .before .if2 .left))
+    let r = c .before .before .before .before .before .before .before in
+    let l = l₃ r in
+    let b = c .before .before .before .before .before .cell-broken in (
+      omega (arith, link-room l, b .kept),
+      fitting (z₁ l .pre .cells) (v₁ l .loop .inv .2) (l .loop-test .taken) (r .before .read-link .ensures) (r .read-cell .ensures) (z₁ l .pre .final) (small₃ r) (at₂ (e₃ r))
+          (sym (b .ensures .0) ∙ c .before .before .if2 .left),
+    )
 
 loop-less : tie.Need-loop-less Inv-loop μ-loop
-loop-less c =
-    let t = c .before .before .before .before .before .before .before .before .before .before .before .before .before .before .before .before .before .loop-test in
-    omega (arith, t .taken)
+loop-less c = omega (arith, l₃ (c .before .before .before .before .before .before .before .before .before .before .before) .loop-test .taken)
 
 loop-again : tie.Need-loop-again Inv-loop μ-loop
 loop-again c =
-    let a = c .before .before .before .before .before .before .before .before .before .before .before .before .before .before .before .before .before .before .before .before .before .before .before .before .before .before .args in
-    let p = c .before .before .before .before .before .before .before .before .before .before .before .before .before .before .before .before .before .before .before .before .before .before .before .before .before .before .pre in
-    let f = c .before .before .before .before .before .before .before .before .before .before .before .before .before .before .before .before .before .before .before .before .before .name-if in
-    let v = c .before .before .before .before .before .before .before .before .before .before .before .before .before .before .before .before .before .before .loop in
-    let t = c .before .before .before .before .before .before .before .before .before .before .before .before .before .before .before .before .before .loop-test in
-    let at = c .before .before .before .before .before .before .before .before .before .before .before .before .before .before .before .placed in
-    let i1 = c .before .before .before .before .before .before .before .before .before .before .before .before .before .before .if1 in
-    let d = c .before .before .before .before .before .before .before .before .before .before .before .before .read-link in
-    let k = c .before .before .before .before .before .before .before .before .before .before .before .read-cell in
+    let r = c .before .before .before .before .before .before .before .before .before .before .before in
+    let l = l₃ r in
     let b = c .before .before .before .before .before .before .before .before .before .cell-broken in
-    let i2 = c .before .before .before .before .before .before .if2 in
     let s = c .before .before .before .push-names in (
-      omega (arith, t .taken),
-      omega (arith, v .inv .1, s .kept, b .kept),
-      passes (a .g .types) (a .g .parts) (now (a .words)) (a .g .n) (a .start) (now (a .cells)) (p .cells) (v .work) (v .i) (v .w) (v .s .top) (v .s .limit) (v .inv .2) (t .taken) (d .result .after) (d .result .within) (d .result .base) (a .g .last) (cell-of (k .result)) (d .ensures) (k .ensures) (p .final) (omega (arith, c .before .before .before .before .before .before .before .before .before .before .before .before .before .before .before .before .before .before .before .before .before .before .before .before .before .shared-slice-known .given (v .i * 7 + 3))) (in-its-place (v .work) (a .g .n) (v .s .top) (v .s .limit) (v .i + 1) (sym (at .ensures) ∙ not-false _ (i1 .left))) (sym (b .ensures .0) ∙ i2 .left) _ _ (a .g .n * 5 + 8) (s .result .top) (s .result .limit) (c .words-end .result) (omega (arith, p .room, v .inv .1, v .inv .2 .few, t .taken, f .kept)) (omega arith) (b .ensures .1) (s .ensures) (c .words-end .ensures),
+      omega (arith, l .loop-test .taken),
+      omega (arith, v₁ l .loop .inv .1, s .kept, b .kept),
+      passes (z₁ l .pre .cells) (v₁ l .loop .inv .2) (l .loop-test .taken) (r .before .read-link .ensures) (r .read-cell .ensures) (z₁ l .pre .final) (small₃ r) (at₂ (e₃ r))
+          (sym (b .ensures .0) ∙ c .before .before .before .before .before .before .if2 .left)
+          _ _ (z₁ l .args .g .n * 5 + 8) _ _ _ (omega (arith, v₁ l .loop .inv .2 .few, l .loop-test .taken)) (omega arith) (b .ensures .1) (s .ensures) (c .words-end .ensures),
     )
 
 returns-3 : tie.Need-returns-3 Inv-loop μ-loop
-returns-3 c =
-    let a = c .before .before .before .before .before .before .before .before .before .args in
-    let p = c .before .before .before .before .before .before .before .before .before .pre in
-    walk-end (a .g .types) (a .g .parts) (now (a .words)) (a .g .n) (a .start) (now (a .cells)) (p .cells) (c .before .loop .work) (c .before .loop .i) (c .before .loop .w) (c .before .loop .s .top) (c .before .loop .s .limit) (c .before .loop .inv .2) (c .loop-test .left)
+returns-3 c = walk-end _ _ _ _ _ _ (c .before .before .before .before .before .before .before .before .before .pre .cells) _ _ _ _ _ (c .before .loop .inv .2) (c .loop-test .left)
 
 pub check-cells-spec : {M : Type 1} → statement M
 check-cells-spec =
