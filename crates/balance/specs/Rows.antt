@@ -1,0 +1,56 @@
+-- Rows of siblings in a store, their balanced sizes, and the first group of a row.
+use mathlib.Core.Path.{_≡_}
+use mathlib.Core.List.{List, _∷_}
+use mathlib.Core.Bool.{cond}
+use mathlib.Core.Option.{Option}
+use Prim.Native.Nat.{ℕ, _+_, max, _≤_, _<_}
+use lib.Dec.{eqb}
+use lib.ListN.{length, getD}
+use Rattle.tree.specs.Trees.{Trees, nil, tree, part, _⊕_, siblings, last-end}
+use Rattle.tree.specs.Cells.{kind, id-word}
+use Rattle.tree.specs.Balance.{total, groups}
+use Rattle.store.specs.Store.{Holds, Readable, liked}
+
+-- a node's balanced size under a type, by what its words tell
+abbrev pub sized : (w : List ℕ) (n kind id : ℕ) → ℕ
+sized w n k i = cond (eqb (getD w n 0) k) (cond (eqb (getD w (n + 1) 0) i) (max 1 (liked w (getD w (n + 4) 0) k i)) 1) 1
+
+-- a node that can be read, and its children where it is of this kind
+pub record Sizable (w : List ℕ) (n kind : ℕ) : Type 0 where
+  pub inside : n + 10 ≤ length w
+  pub kids : getD w n 0 ≡ kind → Readable w (getD w (n + 4) 0)
+
+-- all ends fit a word
+abbrev pub Ends : Trees → Type 0
+Ends nil = Unit {0}
+Ends (tree t s l kids rest) = record { own : s + l ≤ 4294967295; inner : Ends kids; after : Ends rest }
+Ends (part s l ws rest) = record { own : s + l ≤ 4294967295; after : Ends rest }
+
+-- k siblings `us` from a node on, whose sizes under a type are exact; `tail` are the siblings after them
+pub record Row (w : List ℕ) (node k kd i : ℕ) : Type 0 where
+  pub base : ℕ
+  pub top : ℕ
+  pub low : ℕ
+  pub type : Option ℕ
+  pub us : Trees
+  pub tail : Trees
+  pub inside : top ≤ length w
+  pub holds : Holds w base top low node (us ⊕ tail)
+  pub counted : siblings us ≡ k
+  pub kind-is : kd ≡ kind type
+  pub id-is : i ≡ id-word type
+  pub few : total type us < 4294967295
+  pub ends : Ends us
+
+-- the first group of a row under the share m: `count` trees of the size `sum` up to `end`, and the node after them
+pub record Grouped (w : List ℕ) (node k kd i m : ℕ) (p : Row w node k kd i) (count sum next end : ℕ) : Type 0 where
+  pub first : Trees
+  pub rest : Trees
+  pub split : p .us ≡ first ⊕ rest
+  pub groups-is : groups (p .type) m (p .us) ≡ first ∷ groups (p .type) m rest
+  pub some : 1 ≤ count
+  pub count-is : siblings first ≡ count
+  pub sum-is : total (p .type) first ≡ sum
+  pub next-is : Holds w (p .base) (p .top) (p .low) next (rest ⊕ p .tail)
+  pub end-is : last-end 0 first ≡ end
+  pub small : 2 ≤ count → sum < m

@@ -1,0 +1,7 @@
+pub mod Puts
+pub mod Unique
+pub mod Frame
+pub mod Cell
+pub mod Flow
+pub mod Writer
+pub mod Top

@@ -1,0 +1,171 @@
+-- Trees held in the words of a store.
+use mathlib.Core.Path.{_≡_}
+use mathlib.Core.List.{List, [], _∷_}
+use mathlib.Core.Bool.{cond}
+use mathlib.Core.Option.{Option, none, some}
+use Prim.Native.Nat.{ℕ, suc, _+_, _-_, _*_, min, _≤_, _<_}
+use lib.Dec.{eqb}
+use lib.ListN.{length, getD, drop}
+use lib.Seq.{paste}
+use Rattle.words.specs.Words.{put, front}
+use Rattle.tree.specs.Trees.{Trees, nil, tree, part, nodes, siblings}
+use Rattle.tree.specs.Balance.{all-of, total}
+use Rattle.tree.specs.Cells.{cell-width, packed, kind, id-word, tree-cells}
+
+-- a count as a 32-bit word keeps it
+abbrev pub word : ℕ → ℕ
+word n = min n 4294967295
+
+-- one more than the balanced size of siblings that are all trees of the type t, else 0
+unfoldable pub likes : Option ℕ → Trees → ℕ
+likes t ts = cond (all-of t ts) (word (suc (total t ts))) 0
+
+-- A node's ten words, at the address n: kind, id (of a part: how many words), start, length, first child's address (of a part:
+-- its words' address), next sibling's address; of the list from here on, how many cells, packed words and trees, and its
+-- balanced size where all have its own type.
+pub record Node (w : List ℕ) (base top n : ℕ) (kind id start length like : ℕ) (list : Trees) : Type 0 where
+  pub live : 0 < n
+  pub above : base ≤ n
+  pub below : n + 10 ≤ top
+  pub kind-at : getD w n 0 ≡ kind
+  pub id-at : getD w (n + 1) 0 ≡ id
+  pub start-at : getD w (n + 2) 0 ≡ start
+  pub length-at : getD w (n + 3) 0 ≡ length
+  pub cells-at : getD w (n + 6) 0 ≡ word (nodes list)
+  pub words-at : getD w (n + 7) 0 ≡ word (lib.ListN.length (packed list))
+  pub trees-at : getD w (n + 8) 0 ≡ word (siblings list)
+  pub like-at : getD w (n + 9) 0 ≡ like
+
+-- the words ws, of 16 bits each, stand from the address a on, at or above `low`
+pub record Staged (w : List ℕ) (low a : ℕ) (ws : List ℕ) : Type 0 where
+  pub above : low ≤ a
+  pub within : a + length ws ≤ length w
+  pub same : (k : ℕ) → k < length ws → getD w (a + k) 0 ≡ getD ws k 0
+  pub narrow : (k : ℕ) → k < length ws → getD ws k 0 < 65536
+
+-- The address n denotes these siblings, 0 none. Nodes stand from `base` up to `top`, words of parts from `low` up.
+abbrev pub Holds : (w : List ℕ) (base top low n : ℕ) → Trees → Type 0
+Holds w base top low n nil = n ≡ 0
+Holds w base top low n (tree t s l kids rest) =
+    record {
+      node : Node w base top n (kind t) (id-word t) s l (likes t (tree t s l kids rest)) (tree t s l kids rest);
+      first : Holds w base top low (getD w (n + 4) 0) kids;
+      next : Holds w base top low (getD w (n + 5) 0) rest;
+    }
+Holds w base top low n (part s l ws rest) =
+    record {
+      node : Node w base top n 2 (length ws) s l 0 (part s l ws rest);
+      first : Staged w low (getD w (n + 4) 0) ws;
+      next : Holds w base top low (getD w (n + 5) 0) rest;
+    }
+
+-- the words from `base` up to `top` and from `low` on are the same
+pub record Same (w w′ : List ℕ) (base top low : ℕ) : Type 0 where
+  pub size : length w′ ≡ length w
+  pub below : (j : ℕ) → base ≤ j → j < top → getD w′ j 0 ≡ getD w j 0
+  pub above : (j : ℕ) → low ≤ j → getD w′ j 0 ≡ getD w j 0
+
+-- word k of a node, 0 where there is none
+abbrev pub told : List ℕ → ℕ → ℕ → ℕ
+told w n k = cond (eqb n 0) 0 (getD w (n + k) 0)
+
+-- what a list's node tells of a type: one more than the balanced size where all are trees of it, else 0
+abbrev pub liked : (w : List ℕ) (n kind id : ℕ) → ℕ
+liked w n k i = cond (eqb n 0) 1 (cond (eqb (getD w n 0) k) (cond (eqb (getD w (n + 1) 0) i) (getD w (n + 9) 0) 0) 0)
+
+-- the same for a tree of size s before a list
+abbrev pub liked-on : (s b : ℕ) → ℕ
+liked-on s b = cond (eqb b 0) 0 (word (s + b))
+
+-- an address that can be read
+abbrev pub Readable : List ℕ → ℕ → Type 0
+Readable w n = (n ≡ 0 → ⊥) → n + 10 ≤ length w
+
+-- what a push leaves: the new node at the old top, all other words as they were, and what holds of the new node
+pub record PushedTree (w w′ : List ℕ) (top k i s l kids next r : ℕ) : Type 0 where
+  pub address : r ≡ top
+  pub kept : Same w w′ 0 top (top + 10)
+  pub holds : (base low : ℕ) (t : Option ℕ) (ks rest : Trees) → 0 < base → base ≤ top → top + 10 ≤ low → k ≡ kind t → i ≡ id-word t
+      → Holds w base top low kids ks → Holds w base top low next rest
+      → Holds w′ base (top + 10) low r (tree t s l ks rest)
+
+pub record PushedPart (w w′ : List ℕ) (top s l from count next r : ℕ) : Type 0 where
+  pub address : r ≡ top
+  pub kept : Same w w′ 0 top (top + 10)
+  pub holds : (base low : ℕ) (ws : List ℕ) (rest : Trees) → 0 < base → base ≤ top → top + 10 ≤ low → count ≡ length ws
+      → Staged w low from ws → Holds w base top low next rest
+      → Holds w′ base (top + 10) low r (part s l ws rest)
+
+-- the cell of a tree node, after `cell` others, under a parent that starts at q
+abbrev pub tree-cell : (w : List ℕ) (n q cell : ℕ) → List ℕ
+tree-cell w n q cell =
+    getD w n 0 ∷ getD w (n + 1) 0 ∷ (getD w (n + 2) 0 - q) ∷ getD w (n + 3) 0
+    ∷ cond (eqb (getD w (n + 4) 0) 0) 0 (cell + 2)
+    ∷ told w (getD w (n + 4) 0) 8
+    ∷ cond (eqb (getD w (n + 5) 0) 0) 0 (cell + 2 + told w (getD w (n + 4) 0) 6)
+    ∷ []
+
+-- the cell of a part's node, after `cell` others and `word` packed words
+abbrev pub part-cell : (w : List ℕ) (n q cell word : ℕ) → List ℕ
+part-cell w n q cell word =
+    2 ∷ 0 ∷ (getD w (n + 2) 0 - q) ∷ getD w (n + 3) 0 ∷ word ∷ getD w (n + 1) 0
+    ∷ cond (eqb (getD w (n + 5) 0) 0) 0 (cell + 2)
+    ∷ []
+
+pub record PartReady (w : List ℕ) (n cell room word wide : ℕ) : Type 0 where
+  pub inside : n + 10 ≤ length w
+  pub cell-fits : cell * 7 + 7 ≤ room
+  pub few : cell + 2 < 4294967296
+  pub narrow : word < 4294967296
+  pub held : getD w (n + 4) 0 + getD w (n + 1) 0 ≤ length w
+  pub words-fit : word + getD w (n + 1) 0 ≤ wide
+  pub small : (k : ℕ) → k < getD w (n + 1) 0 → getD w (getD w (n + 4) 0 + k) 0 < 65536
+
+pub record PartWritten (w : List ℕ) (n q cell word : ℕ) (out out′ words words′ : List ℕ) (r : ℕ) : Type 0 where
+  pub count : r ≡ getD w (n + 1) 0
+  pub cell-out : out′ ≡ put out (cell * 7) (part-cell w n q cell word)
+  pub words-out : words′ ≡ paste words word (drop (getD w (n + 4) 0) w) (getD w (n + 1) 0)
+
+-- a list of trees that can be written out: there is room for its cells, its packed words and the pending lists
+pub record Writable (w : List ℕ) (top root room wide : ℕ) : Type 0 where
+  pub base : ℕ
+  pub low : ℕ
+  pub trees : Trees
+  pub holds : Holds w base top low root trees
+  pub free : top + 2 * nodes trees ≤ low
+  pub inside : low ≤ length w
+  pub cells-fit : cell-width * nodes trees ≤ room
+  pub words-fit : length (packed trees) ≤ wide
+  pub few : nodes trees < 4294967295
+  pub narrow : length (packed trees) < 4294967296
+
+-- the cells and the packed words stand at the front of the outputs, which are otherwise as they were
+pub record Wrote (w : List ℕ) (top root q : ℕ) (out out′ words words′ : List ℕ) : Type 0 where
+  pub cells-out : (base low : ℕ) (ts : Trees) → Holds w base top low root ts → out′ ≡ front (tree-cells q ts) out
+  pub words-out : (base low : ℕ) (ts : Trees) → Holds w base top low root ts → words′ ≡ front (packed ts) words
+
+-- a word staged below those that stand from `low` on
+pub record StagedMore (w w′ : List ℕ) (low x r : ℕ) : Type 0 where
+  pub address : r + 1 ≡ low
+  pub kept : Same w w′ 0 r low
+  pub holds : (ws : List ℕ) → Staged w low low ws → Staged w′ r r (x ∷ ws)
+
+-- a list of trees that can be put under a top and written out
+pub record TopReady (w : List ℕ) (top kids room wide : ℕ) : Type 0 where
+  pub base : ℕ
+  pub low : ℕ
+  pub trees : Trees
+  pub live : 0 < base
+  pub above : base ≤ top
+  pub free : top + 10 + 2 * suc (nodes trees) ≤ low
+  pub inside : low ≤ length w
+  pub fits : low ≤ 4294967295
+  pub holds : Holds w base top low kids trees
+  pub cells-fit : cell-width * suc (nodes trees) ≤ room
+  pub words-fit : length (packed trees) ≤ wide
+  pub narrow : length (packed trees) < 4294967296
+
+-- the whole tree's cells and words
+pub record TopWrote (w : List ℕ) (top id s l kids : ℕ) (out out′ words words′ : List ℕ) : Type 0 where
+  pub cells-out : (p : TopReady w top kids (length out) (length words)) → out′ ≡ front (tree-cells s (tree (some id) s l (p .trees) nil)) out
+  pub words-out : (p : TopReady w top kids (length out) (length words)) → words′ ≡ front (packed (p .trees)) words
