@@ -1,0 +1,10 @@
+pub mod Puts
+pub mod Written
+pub mod Pushing
+pub mod Handing
+pub mod Unpacking
+pub mod Reading
+pub mod Placing
+pub mod Finishing
+pub mod Accepting
+pub mod Calling
