@@ -29,6 +29,7 @@ pub record CopyReady (w : List ℕ) (top node next : ℕ) : Type 0 where
   pub holds : Holds w base top low node (first ⊕ tail)
   pub onto : Holds w base top low next rest
 
+-- the tree stands again, before that list
 pub record Copied (w w′ : List ℕ) (top node next rtop rnode : ℕ) : Type 0 where
   pub top-is : rtop ≡ top + 10
   pub kept : Same w w′ 0 top (top + 10)
@@ -61,6 +62,7 @@ pub record JoinReady (w : List ℕ) (top node kd i next : ℕ) : Type 0 where
   pub holds : Holds w base top low node ts
   pub onto : Holds w base top low next rest
 
+-- the tree, or the one child that equals it, stands before that list
 pub record Joined (w w′ : List ℕ) (top node kd i s l next rtop rnode : ℕ) : Type 0 where
   pub top-is : rtop ≡ top + 10
   pub kept : Same w w′ 0 top (top + 10)

@@ -89,6 +89,7 @@ pub record PushedTree (w w′ : List ℕ) (top k i s l kids next r : ℕ) : Type
       → Holds w base top low kids ks → Holds w base top low next rest
       → Holds w′ base (top + 10) low r (tree t s l ks rest)
 
+-- the same of a part whose words stand at `from`
 pub record PushedPart (w w′ : List ℕ) (top s l from count next r : ℕ) : Type 0 where
   pub address : r ≡ top
   pub kept : Same w w′ 0 top (top + 10)
@@ -112,6 +113,7 @@ part-cell w n q cell word =
     ∷ cond (eqb (getD w (n + 5) 0) 0) 0 (cell + 2)
     ∷ []
 
+-- a part's node at n that can be written out: its cell and its words fit
 pub record PartReady (w : List ℕ) (n cell room word wide : ℕ) : Type 0 where
   pub inside : n + 10 ≤ length w
   pub cell-fits : cell * 7 + 7 ≤ room
@@ -121,6 +123,7 @@ pub record PartReady (w : List ℕ) (n cell room word wide : ℕ) : Type 0 where
   pub words-fit : word + getD w (n + 1) 0 ≤ wide
   pub small : (k : ℕ) → k < getD w (n + 1) 0 → getD w (getD w (n + 4) 0 + k) 0 < 65536
 
+-- the part's cell and its words are written, r of them
 pub record PartWritten (w : List ℕ) (n q cell word : ℕ) (out out′ words words′ : List ℕ) (r : ℕ) : Type 0 where
   pub count : r ≡ getD w (n + 1) 0
   pub cell-out : out′ ≡ put out (cell * 7) (part-cell w n q cell word)

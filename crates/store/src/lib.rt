@@ -1,4 +1,5 @@
-// A store of trees in lent words: nodes are only added.
+// A store of trees in the work slice. A node is written once and never changed, so what its address denotes stays true while
+// the store grows; one pass writes a list of trees out as preorder cells and packed words.
 ghost use mathlib.Core.Path.{_≡_};
 ghost use Prim.Native.Nat.{ℕ, min, max, _+_, _-_, _*_, _/_, _%_, _≤_, _<_};
 ghost use mathlib.Core.List.{_++_, [], _∷_};
@@ -9,6 +10,7 @@ ghost use mathlib.Core.Bool.{cond};
 ghost use Rattle.words.specs.Words.{put};
 ghost use Rattle.store.specs.Store.{told, liked, liked-on, word, Readable, PushedTree, PushedPart, StagedMore, tree-cell, part-cell, PartReady, PartWritten, Writable, Wrote, TopReady, TopWrote};
 
+// A 32-bit word as an index.
 pub fn wide(x: u32) -> usize
     ensures { λ r. ⌜ r ≡ x ⌝ }
 {
@@ -95,6 +97,7 @@ pub fn at_least_one(a: u32) -> u32
     a
 }
 
+// What is told of a tree of this size before a list of which `b` is told.
 fn like_on(size: u32, b: u32) -> u32
     ensures { λ r. ⌜ r ≡ liked-on size b ⌝ }
 {
@@ -305,6 +308,7 @@ fn write_part(
     count
 }
 
+// Two words from an index on.
 fn put_two(work: &mut [u32], at: usize, a: u32, b: u32)
     requires { ⌜ at + 2 ≤ length (now work) ⌝ }
     ensures { λ _. ⌜ now (work .exit) ≡ put (now (work .entry)) at (a ∷ b ∷ []) ⌝ }

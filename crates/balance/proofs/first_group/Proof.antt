@@ -57,7 +57,7 @@ returns c = λ p.
     let m = c .before .before .before .before in
     let g = m .loop .inv p in
     growing-stop (W m) (s₁ m .args .node) (s₁ m .args .k) (s₁ m .args .kind) (s₁ m .args .id) (s₁ m .args .m) p (m .loop .count) (m .loop .size) (m .loop .next) (m .loop .end) (g .0) (g .1) (g .2) (c .before .before .before .loop-test .taken)
-    (c .before .before .size-of2 .result) (c .before .sum2 .result) (c .before .before .size-of2 .ensures) (c .before .sum2 .ensures) (c .if1 .taken)
+    (c .before .before .size-of2 .result) (c .before .sum2 .result) (c .before .before .size-of2 .ensures) (c .before .sum2 .ensures) (omega (arith, c .if1 .taken))
 
 word-at-requires-4 : tie.Need-word-at-requires-4 Inv-loop μ-loop
 word-at-requires-4 c κs = (next-at (c .before .before .before) .inside, omega arith)
@@ -81,7 +81,7 @@ loop-again c = λ p.
     let f = c .before .before .before .before .before .before .before .before .before .before .before .before .before .before .before .fits .m in
     growing-step (W m) (s₁ m .args .node) (s₁ m .args .k) (s₁ m .args .kind) (s₁ m .args .id) (s₁ m .args .m) p (m .loop .count) (m .loop .size) (m .loop .next) (m .loop .end) (g .0) (g .1) (g .2) (c .before .before .before .before .before .before .before .loop-test .taken)
     (c .before .before .before .before .before .before .size-of2 .result) (c .before .before .before .before .before .sum2 .result) (c .before .before .before .word-at4 .result) (c .before .before .word-at5 .result) (c .word-at6 .result) (c .before .sum3 .result)
-    (c .before .before .before .before .before .before .size-of2 .ensures) (c .before .before .before .before .before .sum2 .ensures) (c .before .before .before .before .if1 .left) (omega (arith, f .fits))
+    (c .before .before .before .before .before .before .size-of2 .ensures) (c .before .before .before .before .before .sum2 .ensures) (omega (arith, c .before .before .before .before .if1 .left)) (omega (arith, f .fits))
     (c .before .before .before .word-at4 .ensures) (c .before .before .word-at5 .ensures) (c .before .sum3 .ensures) (c .word-at6 .ensures)
 
 returns-2 : tie.Need-returns-2 Inv-loop μ-loop
