@@ -1,24 +1,23 @@
 -- What accepted cells give the writer: kinds, parts inside the packed words, starts that fit 32 bits, and room in the work slice.
 -- Assumes nothing.
-use mathlib.Core.Path.{_≡_, refl, sym, ap, ap₂, subst, _∙_}
-use mathlib.Core.Bool.{Bool, true, false, _&&_, _||_, not, true≢false}
+use mathlib.Core.Path.{_≡_, refl, sym, ap, subst, _∙_}
+use mathlib.Core.Bool.{Bool, true, false, _||_, not, true≢false}
 use mathlib.Core.List.{List, [], _∷_}
 use mathlib.Core.Option.{Option, none, some}
 use mathlib.Core.Logic.{_⊎_, inl, inr}
 use Prim.Native.Nat.{ℕ, zero, suc, _+_, _-_, _*_, _/_, _%_, _≤_, _<_}
 use native.Mathlib.Decide.{ℕ-discrete}
 use native.Mathlib.Omega.{arith}
-use borrow.Author.Tests.{le-ltb, lt-ltb, eq-eqb, ne-eqb, ltb-false, eqb-true, not-false}
+use borrow.Author.Tests.{eq-eqb, ne-eqb, ltb-false, eqb-true, not-false}
 use lib.Dec.{ltb, eqb}
 use lib.ListN.{length, getD, take, drop}
-use Rattle.words.specs.Words.{start-of, end-of}
 use Rattle.part.proofs.Faults.{part-sound}
-use Rattle.tree.specs.Trees.{Trees, nodes}
-use Rattle.tree.specs.Cells.{cell-width, decode, decode-from, packed, absolute, relative, cells, tree-cells}
+use Rattle.tree.specs.Trees.{nodes}
+use Rattle.tree.specs.Cells.{decode, decode-from, packed, absolute, cells, tree-cells}
 use Rattle.tree.specs.Calls.{materialise-cells}
 use Rattle.tree.specs.Materialise.{materialise}
 use Rattle.tree.proofs.Well.{Short}
-use Rattle.rules.specs.Cell.{Cell, cells-of, is-part}
+use Rattle.rules.specs.Cell.{Cell, cells-of}
 use Rattle.rules.specs.PartLowest.{part-kept}
 use Rattle.rules.specs.Lowest.{Named, kind-broken, id-broken, part-broken, end-broken, top-broken, lowest-from, top-named, bad-cell, first-named, next-named, words-end}
 use Rattle.rules.specs.Calls.{items, handed-in}

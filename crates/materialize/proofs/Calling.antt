@@ -1,24 +1,23 @@
 -- The call, refusal by refusal in its order, and what it writes. Assumes nothing.
-use mathlib.Core.Path.{_≡_, refl, sym, ap, _∙_}
-use mathlib.Core.Bool.{Bool, true, false}
+use mathlib.Core.Path.{_≡_, sym, _∙_}
+use mathlib.Core.Bool.{true, false}
 use mathlib.Core.List.{List, [], _∷_}
-use mathlib.Core.Option.{Option, none, some}
+use mathlib.Core.Option.{none, some}
 use Prim.Native.Nat.{ℕ, _+_, _*_, _/_, _≤_, _<_}
 use native.Mathlib.Omega.{arith}
 use borrow.Author.Tests.{ltb-false, ltb-true}
 use lib.Dec.{ltb}
 use lib.ListN.{length}
-use Rattle.words.specs.Outcome.{Outcome, accepted, refused, Result}
+use Rattle.words.specs.Outcome.{accepted, refused}
 use Rattle.words.specs.Words.{front}
 use Rattle.tree.specs.Trees.{nodes}
 use Rattle.tree.specs.Materialise.{materialise}
 use Rattle.tree.specs.Cells.{cells}
-use Rattle.tree.specs.Calls.{materialise-cells}
 use Rattle.tree.proofs.Well.{Short}
 use Rattle.rules.specs.Lowest.{bad-cell}
-use Rattle.rules.specs.Calls.{items, unless-bad, result-room, handed-in, materialise-call}
+use Rattle.rules.specs.Calls.{items, result-room, handed-in, materialise-call}
 use Rattle.rules.proofs.CallLaws.{types-refused, work-refused, cell-refused, not-refused, unnumbered-cells, few-cells, materialise-refused, materialise-writes}
-use Rattle.materialize.specs.Steps.{Room, cells-before, unpacked, ahead, Ready}
+use Rattle.materialize.specs.Steps.{cells-before, unpacked, ahead, Ready}
 use Rattle.materialize.proofs.Accepting.{typed-at, parts-fit, total-is, total-few, written-is}
 
 call-refused : (T : ℕ) (cs ws : List ℕ) (work : ℕ) (out : List ℕ) → T ≤ 65536 → 96 * items cs ws + 96 ≤ work → bad-cell T 0 true cs ws ≡ none

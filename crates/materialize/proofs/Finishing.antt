@@ -1,24 +1,20 @@
 -- The loop over all cells: what stands in the output at its end, and how many cells there are. Assumes nothing.
 use mathlib.Core.Path.{_≡_, refl, sym, ap, ap₂, subst, _∙_}
-use mathlib.Core.Bool.{Bool, true, false, cond}
 use mathlib.Core.List.{List, [], _∷_, _++_, append-assoc}
-use mathlib.Core.Option.{Option, none, some}
-use mathlib.Core.Logic.{_⊎_, inl, inr}
 use Prim.Native.Nat.{ℕ, zero, suc, _+_, _-_, _*_, _/_, _≤_, _<_}
 use native.Mathlib.Decide.{ℕ-discrete}
 use native.Mathlib.Omega.{arith}
 use native.Mathlib.Nat.{add-zero}
 use native.Mathlib.Numerals.{add-one}
-use borrow.Author.Tests.{eq-eqb, ne-eqb}
-use lib.Dec.{eqb}
-use lib.ListN.{length, getD, set, take, drop, length-drop}
+use borrow.Author.Tests.{ne-eqb}
+use lib.ListN.{length, getD, drop, length-drop}
 use lib.Seq.{length-take-le, drop-cons}
 use Rattle.words.specs.Words.{front}
 use Rattle.tree.specs.Trees.{Trees, nil, tree, part, _⊕_, nodes, siblings}
 use Rattle.tree.specs.Cells.{kind, id-word, packed, cells, cell, unless-none, cell-tree, decode-from, leading, following}
 use Rattle.tree.proofs.CellLaws.{decode-at, length-cells}
 use Rattle.tree.proofs.PackLaws.{nodes-⊕}
-use Rattle.materialize.specs.Steps.{leads, Out, Made, Room, Behind, unpacked, weight, cells-before, ahead, Marks, At, part-at, Part-fits, Wrote, Ready, Next}
+use Rattle.materialize.specs.Steps.{leads, Out, Made, Behind, unpacked, weight, cells-before, ahead, At, part-at, Part-fits, Wrote, Ready, Next}
 use Rattle.materialize.proofs.Unpacking.{behind-on}
 use Rattle.materialize.proofs.Reading.{unpacked-⊕, leading-following, nodes-so-far}
 

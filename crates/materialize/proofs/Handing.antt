@@ -1,8 +1,8 @@
 -- The trees of a part that become children of the record before them, one by one: their starts are counted from its start.
 -- Assumes nothing.
 use mathlib.Core.Path.{_≡_, refl, sym, ap, subst, _∙_}
-use mathlib.Core.List.{List, [], _∷_, _++_}
-use mathlib.Core.Option.{Option, none, some}
+use mathlib.Core.List.{List}
+use mathlib.Core.Option.{Option}
 use mathlib.Core.Logic.{_⊎_, inl, inr}
 use Prim.Native.Nat.{ℕ, zero, suc, _+_, _-_, _*_, _≤_, _<_}
 use native.Mathlib.Omega.{arith}
@@ -10,12 +10,12 @@ use native.Mathlib.Nat.{add-zero}
 use lib.ListN.{length, getD, set, length-set}
 use lib.Seq.{getD-set-same, getD-set-other}
 use Rattle.tree.specs.Trees.{Trees, nil, tree, part, _⊕_, nodes, siblings}
-use Rattle.tree.specs.Cells.{kind, id-word, relative}
+use Rattle.tree.specs.Cells.{relative}
 use Rattle.tree.specs.Materialise.{within, beyond}
 use Rattle.tree.proofs.PackLaws.{nodes-⊕}
-use Rattle.tree.proofs.ListingLaws.{⊕-assoc, ⊕-nil}
-use Rattle.materialize.specs.Steps.{leads, Out, Roots, Made, Room, Behind, so-far, Open, Moved}
-use Rattle.materialize.proofs.Written.{siblings-⊕, siblings-nodes, out-frame, out-split, out-join, roots-frame, roots-after}
+use Rattle.tree.proofs.ListingLaws.{⊕-assoc}
+use Rattle.materialize.specs.Steps.{leads, Out, Roots, Made, Behind, so-far, Open, Moved}
+use Rattle.materialize.proofs.Written.{siblings-⊕, siblings-nodes, out-frame, out-split, out-join, roots-after}
 
 pub nodes-relative : (q : ℕ) (ts : Trees) → nodes (relative q ts) ≡ nodes ts
 unfolding relative nodes

@@ -1,24 +1,22 @@
 -- One cell more, from the last one back: a tree takes its children from the siblings after it, a part is unpacked before them.
 -- Assumes nothing.
 use mathlib.Core.Path.{_≡_, refl, sym, ap, subst, _∙_}
-use mathlib.Core.Bool.{Bool, true, false, cond}
-use mathlib.Core.List.{List, [], _∷_, _++_}
+use mathlib.Core.Bool.{true, false, cond}
+use mathlib.Core.List.{List}
 use mathlib.Core.Option.{Option, none, some}
 use mathlib.Core.Logic.{_⊎_, inl, inr}
-use Prim.Native.Nat.{ℕ, zero, suc, _+_, _-_, _*_, _/_, _≤_, _<_}
+use Prim.Native.Nat.{ℕ, suc, _+_, _-_, _*_, _/_, _≤_, _<_}
 use native.Mathlib.Decide.{decLe}
 use native.Mathlib.Omega.{arith}
 use native.Mathlib.Numerals.{add-one}
-use borrow.Author.Tests.{le-ltb, lt-ltb, eq-eqb, ne-eqb}
+use borrow.Author.Tests.{le-ltb, lt-ltb, ne-eqb}
 use lib.Dec.{eqb, ltb}
-use lib.ListN.{length, getD, set, take, drop, length-set, length-drop}
+use lib.ListN.{length, getD, set, drop, length-set, length-drop}
 use lib.Seq.{getD-set-same, getD-set-other, length-take-le}
-use Rattle.words.specs.Words.{start-of}
-use Rattle.tree.specs.Trees.{Trees, nil, tree, part, _⊕_, nodes, siblings}
-use Rattle.tree.specs.Cells.{kind, id-word, relative, leading, following, cell-tree, decode-from}
-use Rattle.tree.specs.Materialise.{unpack}
+use Rattle.tree.specs.Trees.{Trees, tree, part, _⊕_, siblings}
+use Rattle.tree.specs.Cells.{kind, id-word, leading, following, cell-tree}
 use Rattle.tree.proofs.CellLaws.{decode-at}
-use Rattle.materialize.specs.Steps.{Made, Room, Behind, so-far, Taken, Put, Packed, Unpacked, unpacked, weight, cells-before, ahead, Marks, At, part-at, Part-fits, trees-left, Typed, Next-cell, Next-part, Wrote}
+use Rattle.materialize.specs.Steps.{Made, Taken, Put, Packed, Unpacked, unpacked, weight, cells-before, ahead, At, part-at, Part-fits, trees-left, Typed, Next-cell, Next-part, Wrote}
 use Rattle.materialize.proofs.Written.{siblings-⊕, siblings-nodes}
 use Rattle.materialize.proofs.Unpacking.{same-room}
 use Rattle.materialize.proofs.Reading.{unpacked-⊕, leading-following, siblings-following, following-all, marks-following, marks-frame, mark-at, made-frame}

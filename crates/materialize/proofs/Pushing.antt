@@ -1,22 +1,22 @@
 -- A tree put before its siblings, over the children it takes from them. Assumes nothing.
 use mathlib.Core.Path.{_≡_, refl, sym, ap, subst, _∙_}
-use mathlib.Core.List.{List, [], _∷_, _++_}
+use mathlib.Core.List.{List, [], _∷_}
 use mathlib.Core.Bool.{Bool, true, false, cond}
-use mathlib.Core.Option.{Option, none, some}
-use Prim.Native.Nat.{ℕ, zero, suc, _+_, _-_, _*_, _≤_, _<_}
+use mathlib.Core.Option.{Option}
+use Prim.Native.Nat.{ℕ, suc, _+_, _-_, _*_, _≤_, _<_}
 use native.Mathlib.Decide.{decLe}
 use native.Mathlib.Omega.{arith}
 use native.Mathlib.Nat.{add-zero}
-use borrow.Author.Tests.{le-ltb, lt-ltb, eq-eqb, ne-eqb}
-use lib.Dec.{ltb, eqb}
+use borrow.Author.Tests.{le-ltb, lt-ltb, ne-eqb}
+use lib.Dec.{ltb}
 use lib.ListN.{length, getD, set, length-set}
 use lib.Seq.{getD-set-same, getD-set-other}
 use Rattle.words.specs.Words.{put}
 use Rattle.tree.specs.Trees.{Trees, nil, tree, part, _⊕_, nodes, siblings}
 use Rattle.tree.specs.Cells.{kind, id-word}
 use Rattle.tree.proofs.PackLaws.{nodes-⊕}
-use Rattle.materialize.specs.Steps.{leads, Out, Roots, Made, Room, Behind, ended, first-link, next-link, Taken, Put, Fit}
-use Rattle.materialize.proofs.Puts.{put-length, put-in, put-before, put-after}
+use Rattle.materialize.specs.Steps.{leads, Out, Roots, Made, Room, ended, first-link, next-link, Taken, Put, Fit}
+use Rattle.materialize.proofs.Puts.{put-in, put-after}
 use Rattle.materialize.proofs.Written.{siblings-⊕, siblings-nodes, out-frame, out-split, roots-frame, roots-after, last-root, retarget, out-none, leads-none}
 
 leads-some : (ts : Trees) (c e : ℕ) → 0 < siblings ts → leads ts c e ≡ suc c

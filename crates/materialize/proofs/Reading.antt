@@ -1,24 +1,20 @@
 -- Trees with their parts unpacked: how they are joined, cut and counted, and the marks of their siblings. Assumes nothing.
-use mathlib.Core.Path.{_≡_, refl, sym, ap, ap₂, subst, _∙_}
-use mathlib.Core.Bool.{Bool, true, false, cond}
-use mathlib.Core.List.{List, [], _∷_, _++_, append-nil, append-assoc}
-use mathlib.Core.Option.{Option, none, some}
-use mathlib.Core.Logic.{_⊎_, inl, inr}
-use Prim.Native.Nat.{ℕ, zero, suc, _+_, _-_, _*_, _/_, _≤_, _<_}
+use mathlib.Core.Path.{_≡_, refl, sym, ap, ap₂, _∙_}
+use mathlib.Core.List.{List}
+use mathlib.Core.Option.{none}
+use Prim.Native.Nat.{ℕ, zero, suc, _+_, _-_, _/_, _≤_, _<_}
 use native.Mathlib.Omega.{arith}
 use native.Mathlib.Nat.{add-zero}
-use borrow.Author.Tests.{le-ltb, lt-ltb, eq-eqb, ne-eqb}
-use lib.Dec.{eqb, ltb}
-use lib.ListN.{length, getD, set, take, drop, length-append}
+use lib.ListN.{length, getD, length-append}
 use Rattle.tree.specs.Trees.{Trees, nil, tree, part, _⊕_, nodes, siblings}
-use Rattle.tree.specs.Cells.{kind, id-word, relative, absolute, packed, cells, cell, leading, following, cell-tree, decode-from, unless-none}
+use Rattle.tree.specs.Cells.{relative, absolute, packed, cells, leading, following}
 use Rattle.tree.specs.Materialise.{unpack, materialise}
-use Rattle.tree.proofs.ListingLaws.{⊕-assoc, ⊕-nil}
+use Rattle.tree.proofs.ListingLaws.{⊕-assoc}
 use Rattle.tree.proofs.PackLaws.{nodes-⊕}
 use Rattle.tree.proofs.SizeLaws.{nodes-unpack}
 use Rattle.tree.proofs.CellLaws.{shift, unpack-shift}
-use Rattle.materialize.specs.Steps.{leads, Out, Roots, Made, so-far, unpacked, Marks}
-use Rattle.materialize.proofs.Written.{siblings-⊕, siblings-nodes, roots-frame}
+use Rattle.materialize.specs.Steps.{Made, so-far, unpacked, Marks}
+use Rattle.materialize.proofs.Written.{siblings-nodes, roots-frame}
 use Rattle.materialize.proofs.Handing.{nodes-relative}
 
 pub unpacked-⊕ : (ts us : Trees) → unpacked (ts ⊕ us) ≡ unpacked ts ⊕ unpacked us

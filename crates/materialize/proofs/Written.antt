@@ -1,16 +1,14 @@
 -- Laws of trees that stand in an output as cells, and of the numbers of siblings on a stack: where they stay, how they are split and
 -- joined, and how the last sibling's link is ended. By induction on the trees. Assumes nothing.
 use mathlib.Core.Path.{_≡_, refl, sym, ap, subst, _∙_}
-use mathlib.Core.List.{List, [], _∷_, _++_}
-use mathlib.Core.Option.{Option, none, some}
-use Prim.Native.Nat.{ℕ, zero, suc, _+_, _-_, _*_, _≤_, _<_}
+use mathlib.Core.List.{List}
+use Prim.Native.Nat.{ℕ, suc, _+_, _-_, _*_, _≤_, _<_}
 use native.Mathlib.Decide.{decLe}
 use native.Mathlib.Omega.{arith}
 use native.Mathlib.Nat.{add-zero}
-use lib.ListN.{length, getD, set}
+use lib.ListN.{getD}
 use Rattle.tree.specs.Trees.{Trees, nil, tree, part, _⊕_, nodes, siblings}
-use Rattle.tree.specs.Cells.{kind, id-word, relative}
-use Rattle.materialize.specs.Steps.{leads, Out, Roots, Made}
+use Rattle.materialize.specs.Steps.{leads, Out, Roots}
 
 pub siblings-⊕ : (ts us : Trees) → siblings (ts ⊕ us) ≡ siblings ts + siblings us
 unfolding siblings _⊕_

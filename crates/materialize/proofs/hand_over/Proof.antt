@@ -1,17 +1,11 @@
+-- `materialize::hand_over` meets its contract: the invariant: the trees taken so far stand as the record's children, with positions from its start. Assumes nothing.
 use native.Mathlib.Omega.{arith}
-use borrow.Author.Tests.{le-ltb, lt-ltb, le-leb, lt-leb, eq-eqb, ne-eqb}
-use lib.ListN.{length, getD, set, take, drop, length-set}
-use Prim.Native.Nat.{ℕ, zero, suc, _+_, _*_, _-_, _/_, _<_, _≤_}
-use mathlib.Core.Path.{_≡_, refl, sym, ap, subst, _∙_}
+use Prim.Native.Nat.{_-_}
 use denote.Ref.{now}
 use Rattle.materialize.proofs.Handing.{Going, going-start, going-reads, going-fits, going-next, going-limit, going-none}
 use borrow.Author.Needs.{needs}
 use Rattle.materialize.proofs.hand_over.Statement.{statement}
 use Rattle.materialize.proofs.hand_over.Tie as tie
-use Rattle.materialize.proofs.hand_over.Reads as reads
-use Rattle.materialize.proofs.hand_over.Lts as lts
-use Rattle.materialize.proofs.less.Reads as less-reads
-use Rattle.materialize.proofs.wide.Reads as wide-reads
 
 abbrev Inv-loop : tie.InvT-loop
 Inv-loop work low sp limit start out₀ left₀ out left = Going work out₀ out low sp limit start left
@@ -19,87 +13,60 @@ Inv-loop work low sp limit start out₀ left₀ out left = Going work out₀ out
 abbrev μ-loop : tie.MeasureT-loop
 μ-loop work low sp limit start out₀ left₀ out left = left
 
--- src/lib.rt:133:5
 loop-holds : tie.Need-loop-holds Inv-loop μ-loop
 loop-holds c = going-start (now (c .before .before .args .work)) (now (c .before .before .args .out)) (c .before .before .args .low) (c .before .before .args .sp) (c .before .before .args .limit) (c .before .before .args .start)
 
--- src/lib.rt:134:30
 sub-wide : tie.Need-sub-wide Inv-loop μ-loop
 sub-wide c = omega (arith, c .loop-test .taken)
 
--- src/lib.rt:134:25
 mul-wide : tie.Need-mul-wide Inv-loop μ-loop
 mul-wide c = omega (arith, going-reads (now (c .before .before .before .before .args .work)) (now (c .before .before .before .before .args .out)) (c .before .loop .out) (c .before .before .before .before .args .low) (c .before .before .before .before .args .sp) (c .before .before .before .before .args .limit) (c .before .before .before .before .args .start) (c .before .loop .left) (c .before .loop .inv) (c .before .before .before .before .pre) (c .loop-test .taken))
 
--- src/lib.rt:134:25
 shared-slice-read-wide : tie.Need-shared-slice-read-wide Inv-loop μ-loop
 shared-slice-read-wide c = going-reads (now (c .before .before .before .before .before .args .work)) (now (c .before .before .before .before .before .args .out)) (c .before .before .loop .out) (c .before .before .before .before .before .args .low) (c .before .before .before .before .before .args .sp) (c .before .before .before .before .before .args .limit) (c .before .before .before .before .before .args .start) (c .before .before .loop .left) (c .before .before .loop .inv) (c .before .before .before .before .before .pre) (c .before .loop-test .taken)
 
--- src/lib.rt:134:13
-wide-requires : tie.Need-wide-requires Inv-loop μ-loop
-wide-requires c κs = search needs
-
--- src/lib.rt:136:13
 same-length : tie.Need-same-length Inv-loop μ-loop
 same-length c = c .before .before .before .before .loop .inv .size
 
--- src/lib.rt:136:13
 returns : tie.Need-returns Inv-loop μ-loop
 returns c = going-limit (now (c .before .before .before .before .before .before .before .args .work)) (now (c .before .before .before .before .before .before .before .args .out)) (c .before .before .before .before .loop .out) (c .before .before .before .before .before .before .before .args .low) (c .before .before .before .before .before .before .before .args .sp) (c .before .before .before .before .before .before .before .args .limit) (c .before .before .before .before .before .before .before .args .start) (c .before .before .before .before .loop .left) (c .before .before .before .before .loop .inv) (c .before .before .before .loop-test .taken) (c .before .wide .result) (c .before .wide .ensures) (c .if1 .taken)
 
--- src/lib.rt:138:38
 mul-less : tie.Need-mul-less Inv-loop μ-loop
 mul-less c = omega (arith, going-fits (now (c .before .before .before .before .before .before .before .args .work)) (now (c .before .before .before .before .before .before .before .args .out)) (c .before .before .before .before .loop .out) (c .before .before .before .before .before .before .before .args .low) (c .before .before .before .before .before .before .before .args .sp) (c .before .before .before .before .before .before .before .args .limit) (c .before .before .before .before .before .before .before .args .start) (c .before .before .before .before .loop .left) (c .before .before .before .before .loop .inv) (c .before .before .before .before .before .before .before .pre) (c .before .before .before .loop-test .taken) (c .before .wide .result) (c .before .wide .ensures))
 
--- src/lib.rt:138:38
 add-less : tie.Need-add-less Inv-loop μ-loop
 add-less c = omega (arith, going-fits (now (c .before .before .before .before .before .before .before .args .work)) (now (c .before .before .before .before .before .before .before .args .out)) (c .before .before .before .before .loop .out) (c .before .before .before .before .before .before .before .args .low) (c .before .before .before .before .before .before .before .args .sp) (c .before .before .before .before .before .before .before .args .limit) (c .before .before .before .before .before .before .before .args .start) (c .before .before .before .before .loop .left) (c .before .before .before .before .loop .inv) (c .before .before .before .before .before .before .before .pre) (c .before .before .before .loop-test .taken) (c .before .wide .result) (c .before .wide .ensures))
 
--- src/lib.rt:138:34
 mul-less-2 : tie.Need-mul-less-2 Inv-loop μ-loop
 mul-less-2 c = omega (arith, going-fits (now (c .before .before .before .before .before .before .before .args .work)) (now (c .before .before .before .before .before .before .before .args .out)) (c .before .before .before .before .loop .out) (c .before .before .before .before .before .before .before .args .low) (c .before .before .before .before .before .before .before .args .sp) (c .before .before .before .before .before .before .before .args .limit) (c .before .before .before .before .before .before .before .args .start) (c .before .before .before .before .loop .left) (c .before .before .before .before .loop .inv) (c .before .before .before .before .before .before .before .pre) (c .before .before .before .loop-test .taken) (c .before .wide .result) (c .before .wide .ensures))
 
--- src/lib.rt:138:34
 slice-read-less : tie.Need-slice-read-less Inv-loop μ-loop
 slice-read-less c = going-fits (now (c .before .before .before .before .before .before .before .before .args .work)) (now (c .before .before .before .before .before .before .before .before .args .out)) (c .before .before .before .before .before .loop .out) (c .before .before .before .before .before .before .before .before .args .low) (c .before .before .before .before .before .before .before .before .args .sp) (c .before .before .before .before .before .before .before .before .args .limit) (c .before .before .before .before .before .before .before .before .args .start) (c .before .before .before .before .before .loop .left) (c .before .before .before .before .before .loop .inv) (c .before .before .before .before .before .before .before .before .pre) (c .before .before .before .before .loop-test .taken) (c .before .before .wide .result) (c .before .before .wide .ensures)
 
--- src/lib.rt:138:29
-less-requires : tie.Need-less-requires Inv-loop μ-loop
-less-requires c κs = search needs
-
--- src/lib.rt:138:13
 mul-out : tie.Need-mul-out Inv-loop μ-loop
 mul-out c = omega (arith, going-fits (now (c .before .before .before .before .before .before .before .before .before .args .work)) (now (c .before .before .before .before .before .before .before .before .before .args .out)) (c .before .before .before .before .before .before .loop .out) (c .before .before .before .before .before .before .before .before .before .args .low) (c .before .before .before .before .before .before .before .before .before .args .sp) (c .before .before .before .before .before .before .before .before .before .args .limit) (c .before .before .before .before .before .before .before .before .before .args .start) (c .before .before .before .before .before .before .loop .left) (c .before .before .before .before .before .before .loop .inv) (c .before .before .before .before .before .before .before .before .before .pre) (c .before .before .before .before .before .loop-test .taken) (c .before .before .before .wide .result) (c .before .before .before .wide .ensures))
 
--- src/lib.rt:138:13
 add-out : tie.Need-add-out Inv-loop μ-loop
 add-out c = omega (arith, going-fits (now (c .before .before .before .before .before .before .before .before .before .args .work)) (now (c .before .before .before .before .before .before .before .before .before .args .out)) (c .before .before .before .before .before .before .loop .out) (c .before .before .before .before .before .before .before .before .before .args .low) (c .before .before .before .before .before .before .before .before .before .args .sp) (c .before .before .before .before .before .before .before .before .before .args .limit) (c .before .before .before .before .before .before .before .before .before .args .start) (c .before .before .before .before .before .before .loop .left) (c .before .before .before .before .before .before .loop .inv) (c .before .before .before .before .before .before .before .before .before .pre) (c .before .before .before .before .before .loop-test .taken) (c .before .before .before .wide .result) (c .before .before .before .wide .ensures))
 
--- src/lib.rt:138:9
 mul-out-2 : tie.Need-mul-out-2 Inv-loop μ-loop
 mul-out-2 c = omega (arith, going-fits (now (c .before .before .before .before .before .before .before .before .before .args .work)) (now (c .before .before .before .before .before .before .before .before .before .args .out)) (c .before .before .before .before .before .before .loop .out) (c .before .before .before .before .before .before .before .before .before .args .low) (c .before .before .before .before .before .before .before .before .before .args .sp) (c .before .before .before .before .before .before .before .before .before .args .limit) (c .before .before .before .before .before .before .before .before .before .args .start) (c .before .before .before .before .before .before .loop .left) (c .before .before .before .before .before .before .loop .inv) (c .before .before .before .before .before .before .before .before .before .pre) (c .before .before .before .before .before .loop-test .taken) (c .before .before .before .wide .result) (c .before .before .before .wide .ensures))
 
--- src/lib.rt:138:9
 slice-write-out : tie.Need-slice-write-out Inv-loop μ-loop
 slice-write-out c = going-fits (now (c .before .before .before .before .before .before .before .before .before .args .work)) (now (c .before .before .before .before .before .before .before .before .before .args .out)) (c .before .before .before .before .before .before .loop .out) (c .before .before .before .before .before .before .before .before .before .args .low) (c .before .before .before .before .before .before .before .before .before .args .sp) (c .before .before .before .before .before .before .before .before .before .args .limit) (c .before .before .before .before .before .before .before .before .before .args .start) (c .before .before .before .before .before .before .loop .left) (c .before .before .before .before .before .before .loop .inv) (c .before .before .before .before .before .before .before .before .before .pre) (c .before .before .before .before .before .loop-test .taken) (c .before .before .before .wide .result) (c .before .before .before .wide .ensures)
 
--- src/lib.rt:139:9
 sub-left : tie.Need-sub-left Inv-loop μ-loop
 sub-left c = omega (arith, c .before .before .before .before .before .loop-test .taken)
 
--- src/lib.rt:133:5
 loop-less : tie.Need-loop-less Inv-loop μ-loop
 loop-less c = omega (arith, c .before .before .before .before .before .loop-test .taken)
 
--- src/lib.rt:133:5
 loop-again : tie.Need-loop-again Inv-loop μ-loop
 loop-again c = going-next (now (c .before .before .before .before .before .before .before .before .before .args .work)) (now (c .before .before .before .before .before .before .before .before .before .args .out)) (c .before .before .before .before .before .before .loop .out) (c .before .before .before .before .before .before .before .before .before .args .low) (c .before .before .before .before .before .before .before .before .before .args .sp) (c .before .before .before .before .before .before .before .before .before .args .limit) (c .before .before .before .before .before .before .before .before .before .args .start) (c .before .before .before .before .before .before .loop .left) (c .before .before .before .before .before .before .loop .inv) (c .before .before .before .before .before .loop-test .taken) (c .before .before .before .wide .result) (c .less .result) (c .before .before .before .wide .ensures) (omega (arith, c .before .before .if1 .left)) (c .less .ensures)
 
--- src/lib.rt:121:1
 same-length-2 : tie.Need-same-length-2 Inv-loop μ-loop
 same-length-2 c = c .before .loop .inv .size
 
--- src/lib.rt:121:1
 returns-2 : tie.Need-returns-2 Inv-loop μ-loop
 returns-2 c = going-none (now (c .before .before .before .before .args .work)) (now (c .before .before .before .before .args .out)) (c .before .loop .out) (c .before .before .before .before .args .low) (c .before .before .before .before .args .sp) (c .before .before .before .before .args .limit) (c .before .before .before .before .args .start) (c .before .loop .left) (c .before .loop .inv) (omega (arith, c .loop-test .left))
 
@@ -113,14 +80,14 @@ hand-over-spec =
     sub-wide
     mul-wide
     shared-slice-read-wide
-    wide-requires
+    (λ c κs. search needs)
     same-length
     returns
     mul-less
     add-less
     mul-less-2
     slice-read-less
-    less-requires
+    (λ c κs. search needs)
     mul-out
     add-out
     mul-out-2
