@@ -1,3 +1,4 @@
 pub mod Spelled
 pub mod Start
 pub mod Back
+pub mod Own

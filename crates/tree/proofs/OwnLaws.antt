@@ -59,7 +59,7 @@ module _ (t : Option ℕ) where
       go false y e = omega arith
 
 -- some siblings have a size
-total-some : (t : Option ℕ) (ts : Trees) → is-nil ts ≡ false → 1 ≤ total t ts
+pub total-some : (t : Option ℕ) (ts : Trees) → is-nil ts ≡ false → 1 ≤ total t ts
 unfolding is-nil
 total-some t nil h = absurd (true≢false h)
 total-some t (tree u s l kids rest) h = total-pos-tree t u s l kids rest
@@ -87,7 +87,7 @@ other-type none i (some j) h e = refl
 other-type (some r) i none h e = refl
 other-type (some r) i (some j) h e = rw (eqb→eq i j e) at h
 
-own-tree : (own : Option ℕ) (u : Option ℕ) (s l : ℕ) (kids : Trees) → same-type own u ≡ false → own-total own (tree u s l kids nil) ≡ 0
+pub own-tree : (own : Option ℕ) (u : Option ℕ) (s l : ℕ) (kids : Trees) → same-type own u ≡ false → own-total own (tree u s l kids nil) ≡ 0
 unfolding own-total
 own-tree own u s l kids h = go (same-type own u) h
   where

@@ -93,14 +93,14 @@ module _ (T : ℕ) (types : T ≤ 65536) where
       (record { known = h .known; starts = h .starts; inner = h .ordered; rest = plain-flat p (off + 4) e hi rs (omega arith) (h .rest) })
 
   -- held records end where the last one ends
-  held-tight : (lo hi : ℕ) (rs : List Record) → Held T lo hi rs → Held T lo (held-end lo rs) rs × (held-end lo rs ≤ hi) × (lo ≤ held-end lo rs)
+  pub held-tight : (lo hi : ℕ) (rs : List Record) → Held T lo hi rs → Held T lo (held-end lo rs) rs × (held-end lo rs ≤ hi) × (lo ≤ held-end lo rs)
   unfolding held-end
   held-tight lo hi [] h = (le-refl lo, h, le-refl lo)
   held-tight lo hi (rec i s e n ∷ rs) h =
       let (a, b, c) = held-tight e hi rs (h .rest) in
       (record { known = h .known; starts = h .starts; ordered = h .ordered; rest = a }, b, omega arith)
 
-  abbrev S : ℕ → ℕ → Trees → Type 0
+  abbrev pub S : ℕ → ℕ → Trees → Type 0
   S lo hi ts = Sound T lo hi ts
 
   -- a flat part before other trees
@@ -121,7 +121,7 @@ module _ (T : ℕ) (types : T ≤ 65536) where
         rest = rw end (well-down T (Parts T) m (held-end e rs) hi ts b w);
       }
 
-  sound-flat-part : (b stop : ℕ) → b ≤ 65535 → (lo m hi : ℕ) (rs : List Record) (ts : Trees) → Held T lo m rs → Room b rs stop → S m hi ts → S lo hi (flat-part rs ts)
+  pub sound-flat-part : (b stop : ℕ) → b ≤ 65535 → (lo m hi : ℕ) (rs : List Record) (ts : Trees) → Held T lo m rs → Room b rs stop → S m hi ts → S lo hi (flat-part rs ts)
   unfolding flat-part held-end
   sound-flat-part b stop bound lo m hi [] ts h room w = well-down T (Parts T) m lo hi ts h w
   sound-flat-part b stop bound lo m hi (rec i s e n ∷ []) ts h room w = go (ltb 65535 (e - s)) refl
@@ -135,16 +135,16 @@ module _ (T : ℕ) (types : T ≤ 65536) where
   sound-flat-part b stop bound lo m hi (rec i s e n ∷ r ∷ rs) ts h room w =
       sound-part i s e n lo m hi (r ∷ rs) ts h w (omega (arith, room .spread .1)) (omega (arith, room .few))
 
-  abbrev G : ℕ → ℕ → Gathered → Type 0
+  abbrev pub G : ℕ → ℕ → Gathered → Type 0
   G lo hi g = Gathers T (Parts T) lo hi g
 
   module _ (b : ℕ) (bound : b ≤ 65535) (own : Option ℕ) where
-    gathers-flushed : (stop lo m hi : ℕ) (held : List Record) (g : Gathered) → Held T lo m held → Room b held stop → G m hi g → G lo hi (gather (flat-part held) g)
+    pub gathers-flushed : (stop lo m hi : ℕ) (held : List Record) (g : Gathered) → Held T lo m held → Room b held stop → G m hi g → G lo hi (gather (flat-part held) g)
     gathers-flushed stop lo m hi held g h room w =
         gathers-gather T (Parts T) m lo hi (flat-part held) g (λ e ts v. sound-flat-part b stop bound lo m e held ts h room v) w
 
     -- `m`: where the held records end; `end`: where the tree ends
-    gathers-flat : (rs : List Record) (inside : Bool) (held : List Record) (stop : ℕ) (g : Gathered) (lo hi m end : ℕ)
+    pub gathers-flat : (rs : List Record) (inside : Bool) (held : List Record) (stop : ℕ) (g : Gathered) (lo hi m end : ℕ)
         → Sorted T lo hi rs → Held T hi m held → Room b held stop → G m end g → G lo end (flat b own rs inside held stop g)
     unfolding flat
     gathers-flat [] inside held stop g lo hi m end so he room w =
@@ -180,7 +180,7 @@ module _ (T : ℕ) (types : T ≤ 65536) where
 
   module _ (F b : ℕ) (bound : b ≤ 65535) where
     -- a run as a part
-    gathers-packed : (i s e k lo hi end : ℕ) (kids rest : Items) (g : Gathered) → Fits F T lo hi (span i s e kids rest) → G hi end g
+    pub gathers-packed : (i s e k lo hi end : ℕ) (kids rest : Items) (g : Gathered) → Fits F T lo hi (span i s e kids rest) → G hi end g
         → Packs F b i s e kids rest k → G (leftmost s (first k rest)) end (gather (run-part F i s e kids (first k rest)) g)
     unfolding spliced run-part
     gathers-packed i s e k lo hi end kids rest g f w packs =
@@ -203,7 +203,7 @@ module _ (T : ℕ) (types : T ≤ 65536) where
           rest = rw ends-at (well-down T (Parts T) hi e edge ts (f .ends) v);
         }) w
 
-    gathers-tree : (i s e hi end : ℕ) (inner g : Gathered) → i < T → s ≤ e → e ≤ hi → G s e inner → G hi end g
+    pub gathers-tree : (i s e hi end : ℕ) (inner g : Gathered) → i < T → s ≤ e → e ≤ hi → G s e inner → G hi end g
         → G s end (gather (λ ts. finish F i s e inner ⊕ ts) g)
     gathers-tree i s e hi end inner g k h l w v =
         gathers-gather T (Parts T) hi s end (λ ts. finish F i s e inner ⊕ ts) g

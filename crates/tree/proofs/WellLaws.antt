@@ -14,7 +14,7 @@ use Rattle.tree.proofs.BalanceLaws.{each-groups}
 use Rattle.tree.proofs.Well.{Known, Well}
 
 module _ (T : ℕ) (Inside : ℕ → ℕ → List ℕ → Type 0) where
-  abbrev W : (lo hi : ℕ) → Trees → Type 0
+  abbrev pub W : (lo hi : ℕ) → Trees → Type 0
   W lo hi ts = Well T Inside lo hi ts
 
   pub well-≤ : (lo hi : ℕ) (ts : Trees) → W lo hi ts → lo ≤ hi
@@ -137,7 +137,7 @@ module _ (T : ℕ) (Inside : ℕ → ℕ → List ℕ → Type 0) where
         well-each (placed again t m) (well-placed again (λ m′ lo′ hi′ ts′ w′. well-divide n m′ lo′ hi′ ts′ w′) m) lo hi (groups t m ts)
         (rw (each-groups t m ts) w)
 
-    well-balance : (s e : ℕ) (ts : Trees) → W s e ts → W s e (balance t t s (e - s) ts)
+    pub well-balance : (s e : ℕ) (ts : Trees) → W s e ts → W s e (balance t t s (e - s) ts)
     unfolding balance
     well-balance s e ts w = well-joined s s e e _ (le-refl s) (le-refl e) (well-divide (suc (total t ts)) (share (total t ts)) s e ts w)
 
@@ -159,7 +159,7 @@ module _ (T : ℕ) (Inside : ℕ → ℕ → List ℕ → Type 0) where
   unfolding gather
   gathers-gather lo lo′ hi f g h w = record { loose = h (g .edge) (g .loose) (w .loose); groups = w .groups }
 
-  gathers-close : (i s lo hi : ℕ) (g : Gathered) → i < T → s ≤ lo → Gathers lo hi g → Gathers s hi (close i s g)
+  pub gathers-close : (i s lo hi : ℕ) (g : Gathered) → i < T → s ≤ lo → Gathers lo hi g → Gathers s hi (close i s g)
   unfolding close
   gathers-close i s lo hi g k h w =
       let low = well-≤ lo (g .edge) (g .loose) (w .loose) in
@@ -177,7 +177,7 @@ module _ (T : ℕ) (Inside : ℕ → ℕ → List ℕ → Type 0) where
       go true = gathers-close i e lo hi g k h w
       go false = gathers-down lo e hi g h w
 
-  well-rest-closed : (i s e : ℕ) (g : Gathered) → i < T → Gathers s e g → W s e ((rest-closed i s g) .groups)
+  pub well-rest-closed : (i s e : ℕ) (g : Gathered) → i < T → Gathers s e g → W s e ((rest-closed i s g) .groups)
   unfolding rest-closed close
   well-rest-closed i s e g k w = go (is-nil (g .loose))
     where
