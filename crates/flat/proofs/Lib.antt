@@ -1,0 +1,6 @@
+pub mod Back
+pub mod Extending
+pub mod Staging
+pub mod Flats
+pub mod Noding
+pub mod Flattening

@@ -1,0 +1,5 @@
+pub mod Due
+pub mod Ends
+pub mod Passing
+pub mod Finishing
+pub mod Holding

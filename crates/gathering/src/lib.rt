@@ -1,0 +1,93 @@
+// What a tree gathers, closed and finished: the group rule for records of a repeat tree's own id, and `finish_node`.
+ghost use Prim.Native.Nat.{_+_, _≤_, _<_};
+ghost use lib.ListN.{length};
+ghost use Rattle.store.specs.Store.{Readable};
+ghost use Rattle.gathering.specs.Gathering.{PassedOver, RestClosed, GroupsReady, GroupsBalanced, FinishReady, Finished};
+
+// Passes over a record of the tree's own id: where its end and the bound come to at most the last group end, the children
+// since then form a group.
+pub fn pass_over(
+    work: &mut [u32],
+    id: u32,
+    end: u32,
+    bound: u32,
+    g: balance::Gathering,
+) -> balance::Gathering
+    requires { ⌜ g .top + 10 ≤ length (now work) ⌝ }
+    requires { ⌜ g .top + 10 < 4294967296 ⌝ }
+    requires { ⌜ Readable (now work) (g .groups) ⌝ }
+    requires { ⌜ Readable (now work) (g .loose) ⌝ }
+    ensures { λ r. ⌜ PassedOver (now (work .entry)) (now (work .exit)) (g .top) id end bound (g .groups) (g .loose) (g .edge) (r .top) (r .groups) (r .loose) (r .edge) ⌝ }
+{
+    let edge = g.edge;
+    if (end as u64) + (bound as u64) <= (edge as u64) {
+        return balance::close_group(work, id, end, g);
+    }
+    g
+}
+
+// Children left over after a first group form one from the tree's start.
+fn close_rest(work: &mut [u32], id: u32, start: u32, g: balance::Gathering) -> balance::Gathering
+    requires { ⌜ g .top + 10 ≤ length (now work) ⌝ }
+    requires { ⌜ g .top + 10 < 4294967296 ⌝ }
+    requires { ⌜ Readable (now work) (g .groups) ⌝ }
+    requires { ⌜ Readable (now work) (g .loose) ⌝ }
+    ensures { λ r. ⌜ RestClosed (now (work .entry)) (now (work .exit)) (g .top) id start (g .groups) (g .loose) (g .edge) (r .top) (r .groups) (r .loose) (r .edge) ⌝ }
+{
+    let loose = g.loose;
+    if loose == 0 {
+        return g;
+    }
+    balance::close_group(work, id, start, g)
+}
+
+// The groups of a repeat tree, balanced under it by its own type, before the list `next`.
+fn balance_groups(
+    work: &mut [u32],
+    stack: u32,
+    top: u32,
+    id: u32,
+    start: u32,
+    end: u32,
+    groups: u32,
+    next: u32,
+) -> balance::Made
+    requires { ⌜ GroupsReady (now work) stack top id start end groups next ⌝ }
+    ensures { λ r. ⌜ GroupsBalanced (now (work .entry)) (now (work .exit)) stack top id start end groups next (r .top) (r .node) ⌝ }
+{
+    let k = store::tell(work, groups, 8);
+    let size = balance::row_size(work, groups, k, 1, id);
+    let own = balance::Parent {
+        kind: 1,
+        id: id,
+        start: start,
+        length: store::less(end, start),
+    };
+    balance::balance_range(work, top, stack, groups, k, size, 1, id, own, next)
+}
+
+// The tree of a record over what it has gathered, before the list `next`; groups are balanced.
+pub fn finish_node(
+    work: &mut [u32],
+    stack: u32,
+    id: u32,
+    start: u32,
+    end: u32,
+    g: balance::Gathering,
+    next: u32,
+) -> balance::Made
+    requires { ⌜ FinishReady (now work) stack (g .top) id start end (g .groups) (g .loose) (g .edge) next ⌝ }
+    ensures { λ r. ⌜ Finished (now (work .entry)) (now (work .exit)) stack (g .top) id start end (g .groups) (g .loose) (g .edge) next (r .top) (r .node) ⌝ }
+{
+    let top = g.top;
+    if g.groups == 0 {
+        let length = store::less(end, start);
+        let made = store::push_tree(work, top, 1, id, start, length, g.loose, next);
+        return balance::Made {
+            top: top + 10,
+            node: made,
+        };
+    }
+    let h = close_rest(work, id, start, g);
+    balance_groups(work, stack, h.top, id, start, end, h.groups, next)
+}

@@ -1,0 +1,5 @@
+pub mod Parts
+pub mod Copy
+pub mod Pack
+pub mod Taking
+pub mod Held

@@ -1,0 +1,4 @@
+pub mod Found
+pub mod Counted
+pub mod Walked
+pub mod Steps

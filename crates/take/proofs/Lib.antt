@@ -1,0 +1,12 @@
+pub mod Levels
+pub mod Steps
+pub mod Passing
+pub mod Packing
+pub mod Opening
+pub mod Closing
+pub mod Deep
+pub mod LastEnd
+pub mod Ways
+pub mod Frames
+pub mod Starting
+pub mod Loop
