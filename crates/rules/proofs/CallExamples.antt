@@ -16,7 +16,7 @@ use Rattle.tree.specs.Calls.{written, materialise-cells, balance-cells, list-ce
 use Rattle.rules.specs.Cell.{cells-of, first-child}
 use Rattle.rules.specs.PartLowest.{still, earliest, bound, ranges, part-kept}
 use Rattle.rules.specs.Lowest.{chain, chains, any-part, named, top-broken, kind-broken, id-broken, link-broken, count-broken, place-broken, order-broken, inside-broken, end-broken, part-broken, stray-broken, any-of, broken, next-named, first-named, words-end, lowest-from, top-named, bad-cell}
-use Rattle.rules.specs.Calls.{items, unless-bad, result-room, lines-room, handed-in, materialise-call, balance-call, list-call}
+use Rattle.rules.specs.Calls.{items, unless-bad, result-room, lines-room, handed-in, materialise-call, balance-room, balance-call, list-call}
 
 -- the calls with all that it takes to compute them
 unfoldable materialised : (T : ℕ) (cs ws : List ℕ) (work : ℕ) (out : List ℕ) → Result
@@ -24,7 +24,7 @@ unfolding bad-cell cells-of first-child chain chains any-part named top-broken k
 materialised T cs ws work out = materialise-call T cs ws work out
 
 unfoldable balances : (T : ℕ) (cs ws : List ℕ) (work : ℕ) (out words : List ℕ) → Result
-unfolding bad-cell cells-of first-child chain chains any-part named top-broken kind-broken id-broken link-broken count-broken place-broken order-broken inside-broken end-broken part-broken stray-broken any-of broken next-named first-named words-end lowest-from top-named part-kept ranges bound earliest still part-check faults-from fault own-fault crosses items unless-bad result-room handed-in balance-call nodes relative absolute packed unless-none kind id-word cells leading following cell-tree decode-from decode tree-cells siblings balanced balance-cells written
+unfolding bad-cell cells-of first-child chain chains any-part named top-broken kind-broken id-broken link-broken count-broken place-broken order-broken inside-broken end-broken part-broken stray-broken any-of broken next-named first-named words-end lowest-from top-named part-kept ranges bound earliest still part-check faults-from fault own-fault crosses items unless-bad result-room handed-in balance-room balance-call nodes relative absolute packed unless-none kind id-word cells leading following cell-tree decode-from decode tree-cells siblings balanced balance-cells written
 balances T cs ws work out words = balance-call T cs ws work out words
 
 unfoldable listed : (T F S : ℕ) (cs : List ℕ) (work : ℕ) (out : List ℕ) → Result

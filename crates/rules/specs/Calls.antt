@@ -55,11 +55,22 @@ materialise-call T cs ws work out =
     settled (unless-bad T 0 true cs ws work (result-room (nodes (materialise (handed-in cs ws))) 0 (length out) 0))
     (front (materialise-cells cs ws) out ∷ []) (out ∷ [])
 
+-- the most items of a tree that balance takes: for these the 96 × items + 96 words of work can still be named by 32-bit words
+abbrev pub most-items : ℕ
+most-items = 44739241
+
+-- "12, 13" of balance, in slices of `cells` and `words` words. The words of the work slice are named by 32-bit words. A tree of more
+-- items than these can name the work for is treated like a result that no slice has the space for: 12.
+unfoldable pub balance-room : (cs ws : List ℕ) (cells words : ℕ) → Outcome
+balance-room cs ws cells words =
+    cond (ltb most-items (items cs ws)) (refused 12 0)
+    (result-room (nodes (balanced (handed-in cs ws))) (length ((balance-cells cs ws) .words)) cells words)
+
 -- Balance: `cells` and `words` are what its outputs held before.
 unfoldable pub balance-call : (T : ℕ) (cs ws : List ℕ) (work : ℕ) (cells words : List ℕ) → Result
 balance-call T cs ws work cells words =
     let w = balance-cells cs ws in
-    settled (unless-bad T 0 true cs ws work (result-room (nodes (balanced (handed-in cs ws))) (length (w .words)) (length cells) (length words)))
+    settled (unless-bad T 0 true cs ws work (balance-room cs ws (length cells) (length words)))
     (front (w .cells) cells ∷ front (w .words) words ∷ []) (cells ∷ words ∷ [])
 
 -- List: it takes no packed words and no cell of kind 2, and absolute ends are counted from S.

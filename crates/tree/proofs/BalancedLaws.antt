@@ -226,7 +226,7 @@ module _ (T hi : ℕ) (cs ws : List ℕ) (k : Kept T hi cs ws) where
       ∙ (view-rebuilt F 0 S (k .kids) ∙ sym (kept-lines T hi F S types cs ws k))
 
 -- no balanced size is above the number of cells
-total-nodes : (t : Option ℕ) (ts : Trees) → total t ts ≤ nodes ts
+pub total-nodes : (t : Option ℕ) (ts : Trees) → total t ts ≤ nodes ts
 unfolding total nodes
 total-nodes t nil = le-refl 0
 total-nodes t (tree u s l kids rest) = go (same-type t u && all-of t kids) (total-nodes t kids) (total-nodes t rest)

@@ -1,0 +1,227 @@
+// `Tree::balance` of a tree that is handed in as cells and packed words. After the tree check the cells become nodes of the store:
+// one pass in order notes where each cell's parent starts, one from the last cell back adds the nodes. The top's children are then
+// balanced, and one pass writes the result out.
+ghost use mathlib.Core.Path.{_≡_};
+ghost use mathlib.Core.List.{List, [], _∷_};
+ghost use Prim.Native.Nat.{ℕ, _+_, _*_, _/_, _<_, _≤_};
+ghost use lib.ListN.{length};
+ghost use Rattle.tree.specs.Trees.{Trees};
+ghost use Rattle.tree.specs.Balance.{balanced};
+ghost use Rattle.store.specs.Store.{Staged, Same};
+ghost use Rattle.rules.specs.Calls.{handed-in, balance-call};
+ghost use Rattle.balancing.specs.Answer.{balanced-outcome};
+ghost use Rattle.balancing.specs.Steps.{Given, noted, Linked, links-noted, Based, address, Building, Standing, settled-tree, Lent};
+use balance::Made;
+
+// Puts the packed words below the place `end`, from the last one back: where the first one stands.
+fn stage_words(words: &[u16], work: &mut [u32], end: u32) -> u32
+    requires { ⌜ length (now words) ≤ end ⌝ }
+    requires { ⌜ end ≤ length (now work) ⌝ }
+    ensures { λ r. ⌜ Staged (now (work .exit)) r r (now (words .entry)) ⌝ }
+    ensures { λ r. ⌜ r + length (now (words .entry)) ≡ end ⌝ }
+{
+    let mut low = end;
+    let mut i = words.len();
+    while 0 < i {
+        i -= 1;
+        low = store::stage(work, low, words[i]);
+    }
+    low
+}
+
+// Notes the start of the parent of cell x, counted from 1, unless x names none.
+fn note(work: &mut [u32], x: u32, base: u32)
+    requires { ⌜ x ≤ length (now work) ⌝ }
+    ensures { λ _. ⌜ now (work .exit) ≡ noted (now (work .entry)) x base ⌝ }
+{
+    if x == 0 {
+        return;
+    }
+    work[store::wide(x) - 1] = base;
+}
+
+// Notes what the cells that cell i names by next and by first need.
+fn note_links(cells: &[u32], i: usize, work: &mut [u32])
+    requires { ⌜ Linked (now cells) (now work) i ⌝ }
+    ensures { λ _. ⌜ now (work .exit) ≡ links-noted (now (cells .entry)) (now (work .entry)) i ⌝ }
+{
+    let base = work[i];
+    note(work, cells[i * 7 + 6], base);
+    if cells[i * 7] == 2 {
+        return;
+    }
+    note(work, cells[i * 7 + 4], base + cells[i * 7 + 2]);
+}
+
+// Puts the start of each cell's parent into the first words, one for each cell.
+fn note_bases(cells: &[u32], work: &mut [u32])
+    requires { ⌜ ((ws : List ℕ) × Given (now cells) ws (length (now cells) / 7)) ⌝ }
+    requires { ⌜ length (now cells) / 7 ≤ length (now work) ⌝ }
+    ensures { λ _. ⌜ ((ws : List ℕ) → Given (now (cells .entry)) ws (length (now (cells .entry)) / 7) → Based (now (work .exit)) (length (now (cells .entry)) / 7) (handed-in (now (cells .entry)) ws)) ⌝ }
+    ensures { λ _. ⌜ Same (now (work .entry)) (now (work .exit)) 0 0 (length (now (cells .entry)) / 7) ⌝ }
+{
+    work[0] = 0;
+    let n = cells.len() / 7;
+    let mut i: usize = 0;
+    while i < n {
+        note_links(cells, i, work);
+        i += 1;
+    }
+}
+
+// The address of the node of cell x, counted from 1; 0 for none.
+fn node_of(high: u32, x: u32) -> u32
+    requires { ⌜ x * 10 ≤ high ⌝ }
+    ensures { λ r. ⌜ r ≡ address high x ⌝ }
+{
+    if x == 0 {
+        return 0;
+    }
+    high - x * 10
+}
+
+// Adds the node of cell i before those of the cells after it.
+fn push_cell(cells: &[u32], i: usize, high: u32, low: u32, work: &mut [u32])
+    requires { ⌜ i < length (now cells) / 7 ⌝ }
+    requires { ⌜ ((ws : List ℕ) × Building (now work) (now cells) ws (length (now cells) / 7) high low (i + 1)) ⌝ }
+    ensures { λ _. ⌜ ((ws : List ℕ) → Building (now (work .entry)) (now (cells .entry)) ws (length (now (cells .entry)) / 7) high low (i + 1) → Building (now (work .exit)) (now (cells .entry)) ws (length (now (cells .entry)) / 7) high low i) ⌝ }
+{
+    let top = high - (i as u32 + 1) * 10;
+    let start = work[i] + cells[i * 7 + 2];
+    let next = node_of(high, cells[i * 7 + 6]);
+    if cells[i * 7] == 2 {
+        store::push_part(
+            work,
+            top,
+            start,
+            cells[i * 7 + 3],
+            low + cells[i * 7 + 4],
+            cells[i * 7 + 5],
+            next,
+        );
+        return;
+    }
+    let first = node_of(high, cells[i * 7 + 4]);
+    store::push_tree(
+        work,
+        top,
+        cells[i * 7],
+        cells[i * 7 + 1],
+        start,
+        cells[i * 7 + 3],
+        first,
+        next,
+    );
+}
+
+// Adds the nodes of all cells.
+fn push_cells(cells: &[u32], high: u32, low: u32, work: &mut [u32])
+    requires { ⌜ ((ws : List ℕ) × Building (now work) (now cells) ws (length (now cells) / 7) high low (length (now cells) / 7)) ⌝ }
+    ensures { λ _. ⌜ ((ws : List ℕ) → Building (now (work .entry)) (now (cells .entry)) ws (length (now (cells .entry)) / 7) high low (length (now (cells .entry)) / 7) → Building (now (work .exit)) (now (cells .entry)) ws (length (now (cells .entry)) / 7) high low 0) ⌝ }
+{
+    let mut i = cells.len() / 7;
+    while 0 < i {
+        i -= 1;
+        push_cell(cells, i, high, low, work);
+    }
+}
+
+// The tree with its children balanced, if there are more than 8.
+fn rebuild(cells: &[u32], high: u32, low: u32, work: &mut [u32]) -> Made
+    requires { ⌜ ((ws : List ℕ) × Building (now work) (now cells) ws (length (now cells) / 7) high low 0) ⌝ }
+    requires { ⌜ length (now cells) / 7 * 35 ≤ low ⌝ }
+    ensures { λ r. ⌜ ((ws : List ℕ) → Building (now (work .entry)) (now (cells .entry)) ws (length (now (cells .entry)) / 7) high low 0 → Standing (now (work .exit)) (r .top) (r .node) (balanced (handed-in (now (cells .entry)) ws))) ⌝ }
+{
+    let count = cells[5];
+    if count <= 8 {
+        return Made {
+            top: high,
+            node: high - 10,
+        };
+    }
+    let kids = node_of(high, cells[4]);
+    let size = balance::row_size(&*work, kids, count, 3, 0);
+    let own = balance::Parent {
+        kind: 1,
+        id: cells[1],
+        start: 0,
+        length: cells[3],
+    };
+    balance::balance_range(work, high, low, kids, count, size, 3, 0, own, 0)
+}
+
+// What the call answers.
+pub enum Balanced {
+    // The result stands in the outputs: how many cells and packed words.
+    Cells(usize, usize),
+    // Document 01's number, and the place.
+    Refused(u32, usize),
+}
+
+// 12, 13, or the tree is written out.
+fn write_out(work: &mut [u32], top: u32, root: u32, out: &mut [u32], packed: &mut [u16]) -> Balanced
+    requires { ⌜ ((ts : Trees) × Standing (now work) top root ts) ⌝ }
+    ensures { λ r. ⌜ ((ts : Trees) → Standing (now (work .entry)) top root ts → record { outcome = balanced-outcome r; outputs = now (out .exit) ∷ now (packed .exit) ∷ [] } ≡ settled-tree ts (now (out .entry)) (now (packed .entry))) ⌝ }
+{
+    let cells = store::wide(store::tell(&*work, root, 6));
+    let words = store::wide(store::tell(&*work, root, 7));
+    if out.len() / 7 < cells {
+        return Balanced::Refused(12, 0);
+    }
+    if packed.len() < words {
+        return Balanced::Refused(13, 0);
+    }
+    store::write_cells(work, top, root, 0, out, packed);
+    Balanced::Cells(cells, words)
+}
+
+// Balance of accepted cells. Of the work slice the first 96 × items + 96 words are used: at their end the packed words, in front one
+// word and a node of ten words for each cell, between them the nodes that balancing adds.
+fn balance_accepted(
+    cells: &[u32],
+    words: &[u16],
+    work: &mut [u32],
+    out: &mut [u32],
+    packed: &mut [u16],
+) -> Balanced
+    requires { ⌜ Lent (now cells) (now words) (length (now work)) ⌝ }
+    ensures { λ r. ⌜ record { outcome = balanced-outcome r; outputs = now (out .exit) ∷ now (packed .exit) ∷ [] } ≡ settled-tree (balanced (handed-in (now (cells .entry)) (now (words .entry)))) (now (out .entry)) (now (packed .entry)) ⌝ }
+{
+    let n = cells.len() / 7;
+    let end = ((n + words.len() / 4) * 96 + 96) as u32;
+    let low = stage_words(words, work, end);
+    note_bases(cells, work);
+    let high = (n * 11) as u32;
+    push_cells(cells, high, low, work);
+    let made = rebuild(cells, high, low, work);
+    write_out(work, made.top, made.node, out, packed)
+}
+
+// The most items whose 96 × items + 96 words of work 32-bit words can name.
+const MOST_ITEMS: usize = 44739241;
+
+// Balance: 1, 11, 15, 12, 13; then the cells and words of the balanced tree.
+pub fn balance(
+    types: u32,
+    cells: &[u32],
+    words: &[u16],
+    work: &mut [u32],
+    out: &mut [u32],
+    packed: &mut [u16],
+) -> Balanced
+    ensures { λ r. ⌜ record { outcome = balanced-outcome r; outputs = now (out .exit) ∷ now (packed .exit) ∷ [] } ≡ balance-call types (now (cells .entry)) (now (words .entry)) (length (now (work .entry))) (now (out .entry)) (now (packed .entry)) ⌝ }
+{
+    if 65536 < types {
+        return Balanced::Refused(1, 0);
+    }
+    if cells::too_little_work(cells, words, &*work) {
+        return Balanced::Refused(11, 0);
+    }
+    if let words::Found::At(at) = cells::tree_check(cells, words, types, 0, true, work) {
+        return Balanced::Refused(15, at);
+    }
+    if MOST_ITEMS < cells.len() / 7 + words.len() / 4 {
+        return Balanced::Refused(12, 0);
+    }
+    balance_accepted(cells, words, work, out, packed)
+}
