@@ -1,16 +1,10 @@
 //! One list at a time: library against model in everything, library against the Rust where it can be asked.
 
+use crate::lent::{Filling, Lent, UNTOUCHED};
 use crate::list_model::{self, List, Verdict};
 use crate::list_ours;
 use crate::oracle::{Oracle, Panicked};
-use crate::rng::Rng;
 use crate::tally::{Input, Outcome, Tally, shortened};
-
-/// What stands in an answer slice before a call: no answer has it in any word.
-const UNTOUCHED: u32 = 0xdead_cafe;
-
-/// Words behind the work slice that must stay as they are.
-const GUARD: usize = 16;
 
 /// The noise changes once in so many lists.
 const NEW_NOISE_EVERY: usize = 64;
@@ -55,59 +49,6 @@ impl Input for List<'_> {
     }
 }
 
-/// What the work slice holds before a call.
-#[derive(Clone, Copy, Debug)]
-enum Filling {
-    /// What the call before left there, on another list.
-    Left,
-    Zeros,
-    Ones,
-    Noise,
-}
-
-/// The words that are lent as a work slice, and noise to fill them with.
-struct Lent {
-    words: Vec<u32>,
-    noise: Vec<u32>,
-}
-
-impl Default for Lent {
-    fn default() -> Self {
-        let mut rng = Rng::new(77);
-        // Small numbers too: they look like records and levels.
-        let noise = (0..8_192)
-            .map(|_| rng.next() as u32 >> rng.pick(&[0, 12, 24, 28, 30]))
-            .collect();
-        Self {
-            words: Vec::new(),
-            noise,
-        }
-    }
-}
-
-impl Lent {
-    /// So many words with a filling, and the guard behind them.
-    fn filled(&mut self, count: usize, filling: Filling) -> (&mut [u32], &mut [u32]) {
-        if self.words.len() < count + GUARD {
-            self.words.resize(count + GUARD, 0);
-        }
-        let (work, rest) = self.words.split_at_mut(count);
-        match filling {
-            Filling::Left => {}
-            Filling::Zeros => work.fill(0),
-            Filling::Ones => work.fill(u32::MAX),
-            Filling::Noise => {
-                for piece in work.chunks_mut(self.noise.len()) {
-                    piece.copy_from_slice(&self.noise[..piece.len()]);
-                }
-            }
-        }
-        let guard = &mut rest[..GUARD];
-        guard.fill(UNTOUCHED);
-        (work, guard)
-    }
-}
-
 #[derive(Default)]
 pub struct ListSession {
     pub tally: Tally,
@@ -126,7 +67,7 @@ impl ListSession {
     pub fn check_against(&mut self, list: &List, expected: Verdict) {
         self.calls += 1;
         if self.calls % NEW_NOISE_EVERY == 0 {
-            self.lent.noise.rotate_left(5);
+            self.lent.stir();
         }
         let calls = [
             (Filling::Left, 4),

@@ -3,6 +3,7 @@
 mod bench;
 mod cases;
 mod compare;
+mod lent;
 mod list_bench;
 mod list_cases;
 mod list_compare;
@@ -20,6 +21,27 @@ mod rng;
 mod shim;
 mod short;
 mod tally;
+mod tree_bench;
+mod tree_cases;
+mod tree_compare;
+mod tree_model;
+mod tree_ours;
+mod tree_record;
+mod tree_rust;
+mod tree_short;
+mod trees;
+
+// Shared with the comparison of the definitions.
+#[allow(dead_code)]
+#[path = "definitions/flatten.rs"]
+mod flatten;
+#[path = "definitions/forests.rs"]
+mod forests;
+#[allow(dead_code)]
+#[path = "definitions/lists.rs"]
+mod random_lists;
+#[path = "definitions/trees.rs"]
+mod shapes;
 
 // The names that the Rust sources expect at the root of their crate.
 pub use oracle::parse::Parser;
@@ -39,7 +61,7 @@ use rng::Rng;
 struct Options {
     command: String,
     seed: u64,
-    /// Random cases are made until this many cases have been compared in all.
+    /// Random cases are made until this many cases have been compared in all; of trees so many are made.
     cases: u64,
     /// The crate whose files the recorded answers become.
     into: PathBuf,
@@ -50,12 +72,17 @@ fn options() -> Result<Options, String> {
     let command = words.next().ok_or("a command is missing")?;
     let into = match command.as_str() {
         "record-lists" => "crates/record_vectors",
+        "record-trees" => "crates/tree_vectors",
         _ => "crates/part_vectors",
+    };
+    let cases = match command.as_str() {
+        "trees" => 300_000,
+        _ => 6_000_000,
     };
     let mut options = Options {
         command,
         seed: 1,
-        cases: 6_000_000,
+        cases,
         into: PathBuf::from(into),
     };
     while let Some(word) = words.next() {
@@ -85,8 +112,11 @@ fn main() -> ExitCode {
         "bench-parts" => bench::run(options.seed),
         "record-parts" => record::run(options.seed, &options.into),
         "lists" => lists::run(options.seed, options.cases),
+        "trees" => trees::run(options.seed, options.cases),
+        "bench-trees" => tree_bench::run(options.seed),
         "bench-lists" => list_bench::run(options.seed),
         "record-lists" => list_record::run(options.seed, &options.into),
+        "record-trees" => tree_record::run(options.seed, &options.into),
         other => {
             eprintln!("unknown command {other}");
             ExitCode::from(2)

@@ -69,7 +69,8 @@ pub fn silence_expected_panics() {
     }));
 }
 
-fn guarded<A>(work: impl FnOnce() -> A) -> Result<A, Panicked> {
+/// What the Rust answers, or that it panics.
+pub fn guarded<A>(work: impl FnOnce() -> A) -> Result<A, Panicked> {
     EXPECTED.set(true);
     let answer = catch_unwind(AssertUnwindSafe(work));
     EXPECTED.set(false);
@@ -93,7 +94,7 @@ pub struct Oracle {
 }
 
 impl Oracle {
-    fn set(&mut self, types: u32) -> Result<Arc<NodeSet>, Panicked> {
+    pub fn set(&mut self, types: u32) -> Result<Arc<NodeSet>, Panicked> {
         let types = types.min(TOO_MANY_TYPES);
         self.sets
             .entry(types)

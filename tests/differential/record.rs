@@ -215,7 +215,7 @@ impl Sample {
 }
 
 /// Words with a space before each.
-fn spaced<A: Display>(words: &[A]) -> String {
+pub fn spaced<A: Display>(words: &[A]) -> String {
     let mut text = String::new();
     for word in words {
         write!(text, " {word}").expect("writing to a string");

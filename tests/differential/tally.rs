@@ -103,7 +103,7 @@ impl Tally {
 
     pub fn print(&self) {
         println!(
-            "{:8}{:>8}{:>12}{:>12}{:>12}{:>12}",
+            "{:12}{:>8}{:>12}{:>12}{:>12}{:>12}",
             "call", "number", "cases", "agreements", "panics", "intended"
         );
         for ((call, number), row) in &self.rows {
@@ -112,11 +112,11 @@ impl Tally {
                 number => number.to_string(),
             };
             println!(
-                "{call:8}{number:>8}{:>12}{:>12}{:>12}{:>12}",
+                "{call:12}{number:>8}{:>12}{:>12}{:>12}{:>12}",
                 row.cases, row.same, row.panics, row.intended
             );
         }
-        println!("{:16}{:>12}", "all", self.cases());
+        println!("{:20}{:>12}", "all", self.cases());
         println!("intended differences:");
         for (name, class) in &self.classes {
             println!(

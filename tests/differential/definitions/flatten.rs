@@ -1,7 +1,7 @@
 //! The Rust's trees as document 01's cells and packed words, and the lines of a walk over one.
 
 use crate::TextSize;
-use crate::rezel::tree::{NodeType, Tree, TreeChild};
+use crate::tree::{NodeType, Tree, TreeChild};
 
 /// Cells, seven words each, and packed words.
 #[derive(Clone, Debug, Default, PartialEq)]

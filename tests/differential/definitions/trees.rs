@@ -4,8 +4,8 @@ use std::sync::Arc;
 
 use crate::TextSize;
 use crate::flatten::{Flat, flatten};
-use crate::rezel::tree::{NodeSet, NodeType, Tree, TreeBuffer, TreeChild};
 use crate::rng::Rng;
+use crate::tree::{NodeSet, NodeType, Tree, TreeBuffer, TreeChild};
 
 /// A tree, the number of its types, and F and S for a listing of it.
 #[derive(Clone)]

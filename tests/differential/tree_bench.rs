@@ -1,0 +1,255 @@
+//! Times of materialise and list by shape, beside the Rust's own on the same tree.
+
+use std::hint::black_box;
+use std::process::ExitCode;
+use std::time::Instant;
+
+use crate::list_cases::{self, Shape, Stuff};
+use crate::oracle::Oracle;
+use crate::rng::Rng;
+use crate::tree::{NodeType, TreeChild};
+use crate::tree_cases::{self, Mix};
+use crate::tree_model::{Handed, work_words};
+use crate::{Tree, tree_ours, tree_rust};
+
+/// Each figure is the best of so many repeats.
+const REPEATS: usize = 7;
+
+/// Nodes under the top.
+const NODES: usize = 1_000_000;
+
+/// The Rust recurses once for each nested tree.
+const STACK: usize = 1 << 30;
+
+const TYPES: u32 = 300;
+
+const NOTE: &str = "ns per cell of the result (of list: of the materialised tree), best of several repeats in one process. The Rust's
+materialise is `Tree::materialize`, with its allocation and without dropping the result; it checks nothing, and the call
+here checks all cells and words first. The Rust's list is a walk over the children of the materialised tree that writes the
+same lines. The Rust's balance shares what stays as it is and so may take no time at all, while the call here writes all
+cells: its time is that of `Tree::balance` and a walk that writes the cells and words of the result.
+The work slice has been written to before, so that no page of it is new.";
+
+pub fn run(seed: u64) -> ExitCode {
+    let work = std::thread::Builder::new().stack_size(STACK);
+    let thread = work.spawn(move || measure(seed)).expect("a thread");
+    thread.join().unwrap_or(ExitCode::FAILURE)
+}
+
+fn measure(seed: u64) -> ExitCode {
+    println!("seed {seed}\n{NOTE}");
+    println!(
+        "{:40}{:12}{:>10}{:>10}{:>9}{:>9}{:>8}",
+        "shape", "call", "cells in", "cells out", "here", "Rust", "ratio"
+    );
+    let none = (0, 5, 1);
+    let shapes = [
+        ("flat, parts of 1,000 records", Shape::Flat, (100, 0, 1_000)),
+        ("flat, parts of 4 records", Shape::Flat, (100, 0, 4)),
+        ("flat, no parts", Shape::Flat, none),
+        (
+            "parents of 999 leaves, leaves in parts",
+            Shape::Wide(999),
+            (95, 0, 999),
+        ),
+        (
+            "random nesting, some in parts",
+            Shape::Mixed(60, 5),
+            (30, 5, 5),
+        ),
+        ("random nesting, no parts", Shape::Mixed(60, 5), none),
+        ("balanced binary, some in parts", Shape::Binary, (10, 5, 2)),
+        ("balanced binary, no parts", Shape::Binary, none),
+        (
+            "parents of 999 leaves, all of kind 3",
+            Shape::Wide(999),
+            (0, 100, 1),
+        ),
+        ("one chain, no parts", Shape::Chain, none),
+    ];
+    let mut rng = Rng::new(seed);
+    let mut bench = Bench::new();
+    for (name, shape, (parts, none, run)) in shapes {
+        let mix = Mix { parts, none, run };
+        bench.measure(name, &grown(&mut rng, shape, mix));
+    }
+    ExitCode::SUCCESS
+}
+
+/// A tree over a forest of a shape; a balanced one is cut at the nearest power of two.
+fn grown(rng: &mut Rng, shape: Shape, mix: Mix) -> Handed {
+    let stuff = Stuff {
+        types: TYPES,
+        start: 0,
+        gap: 1,
+        length: 3,
+    };
+    let nodes = match shape {
+        Shape::Binary => (1 << 20) - 1,
+        _ => NODES,
+    };
+    let records = list_cases::good_list(rng, &stuff, nodes, shape);
+    let mut tree = tree_cases::tree_over(rng, TYPES, &tree_cases::forest(&records), mix);
+    tree.first_repeat = TYPES - 20;
+    tree.start = 7;
+    tree
+}
+
+struct Bench {
+    oracle: Oracle,
+    work: Vec<u32>,
+    out: Vec<u32>,
+}
+
+impl Bench {
+    fn new() -> Self {
+        let items = 2 * NODES;
+        Self {
+            oracle: Oracle::default(),
+            work: vec![1; work_words(items * 7, 0)],
+            out: vec![1; items * 7],
+        }
+    }
+
+    fn measure(&mut self, name: &str, tree: &Handed) {
+        let set = self.oracle.set(tree.types).expect("a set of few types");
+        let rust = tree_rust::tree_of(tree, &set);
+        let mut info = [0; 3];
+        let (work, out) = (&mut self.work, &mut self.out);
+        let mut packed = vec![0; tree.words.len()];
+        let row = Row {
+            shape: name,
+            cells: tree.cells.len() / 7,
+        };
+        let ours = best(|| tree_ours::balance(black_box(tree), work, out, &mut packed, &mut info));
+        let (balanced, _) = cells(&rust.balance());
+        assert_eq!(out[..balanced.len()], balanced, "the balanced cells differ");
+        let theirs = best(|| cells(&black_box(&rust).balance()));
+        row.print("balance", info[1], ours, theirs);
+        let ours = best(|| tree_ours::materialise(black_box(tree), work, out, &mut info));
+        let theirs = best(|| black_box(&rust).materialize());
+        let count = info[1];
+        row.print("materialise", count, ours, theirs);
+        let listed = Handed {
+            cells: out[..count as usize * 7].to_vec(),
+            words: Vec::new(),
+            ..*tree
+        };
+        let materialised = rust.materialize();
+        let expected = lines(&materialised, tree.first_repeat, tree.start);
+        let ours = best(|| tree_ours::list(black_box(&listed), work, out, &mut info));
+        assert_eq!(out[..expected.len()], expected, "the lines differ");
+        let theirs = best(|| lines(black_box(&materialised), tree.first_repeat, tree.start));
+        row.print("list", count, ours, theirs);
+    }
+}
+
+/// What the lines of one tree have in common.
+struct Row<'a> {
+    shape: &'a str,
+    cells: usize,
+}
+
+impl Row<'_> {
+    fn print(&self, call: &str, out: u32, ours: f64, theirs: f64) {
+        let each = |nanoseconds: f64| nanoseconds / f64::from(out);
+        println!(
+            "{:40}{call:12}{:>10}{out:>10}{:>9.1}{:>9.1}{:>8.2}",
+            self.shape,
+            self.cells,
+            each(ours),
+            each(theirs),
+            ours / theirs
+        );
+    }
+}
+
+/// The cells and words of a Rust tree.
+fn cells(tree: &Tree) -> (Vec<u32>, Vec<u16>) {
+    let (mut cells, mut words) = (Vec::new(), Vec::new());
+    write_tree(tree, &NodeType::none(), 0, &mut cells, &mut words);
+    (cells, words)
+}
+
+fn write_tree(
+    tree: &Tree,
+    none: &NodeType,
+    position: u32,
+    cells: &mut Vec<u32>,
+    words: &mut Vec<u16>,
+) {
+    let kind = tree.node_type();
+    let (kind, id) = if kind.is(none) {
+        (3, 0)
+    } else {
+        (1, kind.id().into())
+    };
+    let count = tree.children().len() as u32;
+    let first = if count == 0 {
+        0
+    } else {
+        cells.len() as u32 / 7 + 2
+    };
+    cells.extend([kind, id, position, tree.len().into(), first, count, 0]);
+    let mut before = None;
+    for (child, &position) in tree.children().iter().zip(tree.positions()) {
+        let at = cells.len();
+        if let Some(before) = before {
+            cells[before + 6] = at as u32 / 7 + 1;
+        }
+        before = Some(at);
+        match child {
+            TreeChild::Tree(tree) => write_tree(tree, none, position.into(), cells, words),
+            TreeChild::Buffer(part) => {
+                let (offset, count) = (words.len() as u32, part.data().len() as u32);
+                let (position, length) = (position.into(), part.len().into());
+                cells.extend([2, 0, position, length, offset, count, 0]);
+                words.extend_from_slice(part.data());
+            }
+        }
+    }
+}
+
+/// The lines of a materialised tree, as a walk over the Rust's own finds them.
+fn lines(tree: &Tree, first_repeat: u32, start: u32) -> Vec<u32> {
+    let mut found = Vec::new();
+    let none = NodeType::none();
+    walk(tree, &none, first_repeat, start, 0, &mut found);
+    found
+}
+
+fn walk(
+    tree: &Tree,
+    none: &NodeType,
+    first_repeat: u32,
+    start: u32,
+    depth: u32,
+    found: &mut Vec<u32>,
+) {
+    for (child, position) in tree.children().iter().zip(tree.positions()) {
+        let TreeChild::Tree(child) = child else {
+            unreachable!("a materialised tree has no parts");
+        };
+        let from = start + u32::from(*position);
+        let kind = child.node_type();
+        let listed = !kind.is(none) && u32::from(kind.id()) < first_repeat;
+        if listed {
+            let to = from + u32::from(child.len());
+            found.extend([depth, kind.id().into(), from, to]);
+        }
+        let below = depth + u32::from(listed);
+        walk(child, none, first_repeat, from, below, found);
+    }
+}
+
+/// Nanoseconds of the quickest call; what it answers is dropped outside the time.
+fn best<A>(mut call: impl FnMut() -> A) -> f64 {
+    let mut least = f64::MAX;
+    for _ in 0..REPEATS {
+        let start = Instant::now();
+        let answer = black_box(call());
+        least = least.min(start.elapsed().as_nanos() as f64);
+        drop(answer);
+    }
+    least
+}

@@ -1,0 +1,382 @@
+//! One tree at a time: library against model in everything, library against the Rust where the tree is accepted.
+
+use crate::flatten;
+use crate::lent::{Filling, Lent, UNTOUCHED};
+use crate::oracle::{Oracle, Panicked};
+use crate::tally::{Input, Outcome, Tally, shortened};
+use crate::tree_model::{self, Handed, Verdict};
+use crate::{tree_ours, tree_rust};
+
+/// The noise changes once in so many trees.
+const NEW_NOISE_EVERY: u64 = 64;
+
+/// Words behind an output slice, and spare ones in a roomy slice, that must stay as they are.
+const BEHIND: usize = 8;
+
+/// One call on a tree.
+struct Case<'a> {
+    call: &'static str,
+    tree: &'a Handed,
+}
+
+#[derive(Clone, Copy)]
+enum Call {
+    Materialise,
+    List,
+    Balance,
+}
+
+impl Call {
+    fn name(self) -> &'static str {
+        match self {
+            Self::Materialise => "materialise",
+            Self::List => "list",
+            Self::Balance => "balance",
+        }
+    }
+
+    /// The number where the output is too short.
+    fn no_room(self) -> u32 {
+        match self {
+            Self::List => 14,
+            Self::Materialise | Self::Balance => 12,
+        }
+    }
+}
+
+impl Input for Case<'_> {
+    fn call(&self) -> &'static str {
+        self.call
+    }
+
+    fn describe(&self) -> String {
+        let tree = self.tree;
+        let (types, first, start) = (tree.types, tree.first_repeat, tree.start);
+        let cells: Vec<&[u32]> = tree.cells.chunks(7).collect();
+        let (cells, words) = (shortened(&cells), shortened(&tree.words));
+        format!("T {types}, F {first}, S {start}, cells {cells}, words {words}")
+    }
+
+    fn weight(&self) -> (usize, u128) {
+        let tree = self.tree;
+        let cells: u128 = tree.cells.iter().map(|&word| u128::from(word)).sum();
+        let words: u128 = tree.words.iter().map(|&word| u128::from(word)).sum();
+        let numbers = u128::from(tree.types) + u128::from(tree.start);
+        (tree.cells.len() + tree.words.len(), cells + words + numbers)
+    }
+}
+
+/// What a call answers where it is lent enough, and what it then writes.
+struct Expected {
+    call: Call,
+    /// The place of 15.
+    bad: Option<usize>,
+    /// Words of work that it asks for.
+    work: usize,
+    written: Vec<u32>,
+    packed: Vec<u16>,
+    counts: [usize; 2],
+}
+
+impl Expected {
+    /// Nothing written yet.
+    fn new(call: Call, bad: Option<usize>, work: usize) -> Self {
+        Self {
+            call,
+            bad,
+            work,
+            written: Vec::new(),
+            packed: Vec::new(),
+            counts: [0, 0],
+        }
+    }
+
+    /// The answer on slices of these sizes.
+    fn verdict(&self, types: u32, lent: &Slices) -> Verdict {
+        if let Some(verdict) = tree_model::early(types, self.work, lent.work, self.bad) {
+            return verdict;
+        }
+        if lent.room < self.written.len() {
+            return tree_model::refused(self.call.no_room(), 0);
+        }
+        if lent.packed < self.packed.len() {
+            return tree_model::refused(13, 0);
+        }
+        tree_model::accepted(self.counts)
+    }
+}
+
+/// The slices that a call is lent: how many words of work, of output and of packed output.
+#[derive(Clone, Copy)]
+struct Slices {
+    work: usize,
+    room: usize,
+    packed: usize,
+    filling: Filling,
+    /// Words to answer in.
+    held: usize,
+}
+
+/// What the trees of a run held, to see that no shape is missing.
+#[derive(Default)]
+pub struct Seen {
+    pub trees: u64,
+    accepted: u64,
+    cells: u64,
+    parts: u64,
+    none: u64,
+    records: u64,
+    lines: u64,
+    balanced: u64,
+}
+
+impl std::fmt::Display for Seen {
+    fn fmt(&self, out: &mut std::fmt::Formatter<'_>) -> std::fmt::Result {
+        write!(out, "{} trees, {} accepted; ", self.trees, self.accepted)?;
+        write!(out, "in these {} cells, {} parts ", self.cells, self.parts)?;
+        write!(
+            out,
+            "of {} records, {} trees of kind 3, ",
+            self.records, self.none
+        )?;
+        write!(out, "{} lines; ", self.lines)?;
+        write!(out, "balancing changes {}", self.balanced)
+    }
+}
+
+#[derive(Default)]
+pub struct TreeSession {
+    pub tally: Tally,
+    pub seen: Seen,
+    oracle: Oracle,
+    lent: Lent,
+    out: Vec<u32>,
+    packed: Vec<u16>,
+}
+
+impl TreeSession {
+    pub fn oracle(&mut self) -> &mut Oracle {
+        &mut self.oracle
+    }
+
+    /// Compares the calls on one tree with the model and with the Rust.
+    pub fn check(&mut self, tree: &Handed) {
+        self.seen.trees += 1;
+        if self.seen.trees % NEW_NOISE_EVERY == 0 {
+            self.lent.stir();
+        }
+        self.list(tree);
+        let bad = tree_model::bad_cell(tree.types, 0, true, &tree.cells, &tree.words);
+        let mut expected = Expected::new(Call::Materialise, bad, work_for(tree));
+        if bad.is_some() || tree.types > 65_536 {
+            self.compare(tree, &expected);
+            expected.call = Call::Balance;
+            self.compare(tree, &expected);
+        } else if let Some(rust) = self.rust_tree(tree) {
+            self.note(tree);
+            self.balance(tree, &rust);
+            self.materialise(tree, &rust);
+        }
+    }
+
+    /// Materialise on an accepted tree, and list on what it gives.
+    fn materialise(&mut self, tree: &Handed, rust: &crate::Tree) {
+        let (cells, words) = tree_rust::cells_of(&rust.materialize());
+        assert!(words.is_empty(), "a part in a materialised tree");
+        let mut expected = Expected::new(Call::Materialise, None, work_for(tree));
+        expected.counts = [cells.len() / 7, 0];
+        expected.written = cells;
+        self.compare(tree, &expected);
+        self.list(&Handed {
+            cells: expected.written,
+            words,
+            ..*tree
+        });
+    }
+
+    /// Balance on an accepted tree.
+    fn balance(&mut self, tree: &Handed, rust: &crate::Tree) {
+        let (cells, words) = tree_rust::cells_of(&rust.balance());
+        self.seen.balanced += u64::from(cells != tree.cells);
+        let mut expected = Expected::new(Call::Balance, None, work_for(tree));
+        expected.counts = [cells.len() / 7, words.len()];
+        expected.written = cells;
+        expected.packed = words;
+        self.compare(tree, &expected);
+    }
+
+    fn list(&mut self, tree: &Handed) {
+        let bad = tree_model::bad_cell(tree.types, tree.start, false, &tree.cells, &[]);
+        let work = tree_model::work_words(tree.cells.len(), 0);
+        let mut expected = Expected::new(Call::List, bad, work);
+        if bad.is_none() && tree.types <= 65_536 {
+            let plain = Handed {
+                words: Vec::new(),
+                ..tree.clone()
+            };
+            let Some(rust) = self.rust_tree(&plain) else {
+                return;
+            };
+            let lines = flatten::lines(&rust.materialize(), tree.first_repeat, tree.start);
+            expected.written = tree_rust::narrow(&lines);
+            expected.counts = [lines.len() / 4, 0];
+            self.seen.lines += lines.len() as u64 / 4;
+        }
+        self.compare(tree, &expected);
+    }
+
+    /// The Rust's tree of accepted cells, which written again are the same cells; else a difference is counted.
+    fn rust_tree(&mut self, tree: &Handed) -> Option<crate::Tree> {
+        let set = self.oracle.set(tree.types).ok()?;
+        let rust = tree_rust::tree_of(tree, &set);
+        let again = tree_rust::cells_of(&rust);
+        if again.0 == tree.cells && again.1 == tree.words {
+            return Some(rust);
+        }
+        let case = Case { call: "read", tree };
+        let what = "the model accepts cells that are not those of their tree";
+        self.tally.differ(&case, what);
+        None
+    }
+
+    fn note(&mut self, tree: &Handed) {
+        let of_kind = |kind| tree.cells.chunks(7).filter(|cell| cell[0] == kind).count() as u64;
+        self.seen.accepted += 1;
+        self.seen.cells += tree.cells.len() as u64 / 7;
+        self.seen.parts += of_kind(2);
+        self.seen.none += of_kind(3);
+        self.seen.records += tree.words.len() as u64 / 4;
+    }
+
+    /// One call on slices that are just large enough, larger, and too short.
+    fn compare(&mut self, tree: &Handed, expected: &Expected) {
+        let just = Slices {
+            work: expected.work,
+            room: expected.written.len(),
+            packed: expected.packed.len(),
+            filling: Filling::Left,
+            held: 4,
+        };
+        let mut calls = vec![just];
+        calls.push(Slices {
+            work: just.work + 5,
+            room: just.room + BEHIND,
+            packed: just.packed + 1,
+            filling: Filling::Noise,
+            held: (self.seen.trees % 4) as usize,
+        });
+        let mut with = |change: fn(&mut Slices)| {
+            let mut other = just;
+            change(&mut other);
+            calls.push(other);
+        };
+        with(|it| it.work -= 1);
+        match self.seen.trees % 4 {
+            0 => with(|it| it.filling = Filling::Ones),
+            1 => with(|it| it.filling = Filling::Zeros),
+            2 => with(|it| (it.work, it.room, it.packed) = (0, 0, 0)),
+            _ => {}
+        }
+        if just.room > 0 {
+            with(|it| it.room -= 1);
+            with(|it| it.room = 0);
+        }
+        if just.packed > 0 {
+            with(|it| it.packed -= 1);
+            with(|it| (it.room, it.packed) = (it.room - 1, 0));
+        }
+        for lent in &calls {
+            self.call(tree, expected, lent);
+        }
+    }
+
+    /// Whether the library answers and writes what is expected on slices of one size and filling.
+    fn call(&mut self, tree: &Handed, expected: &Expected, lent: &Slices) {
+        let call = expected.call.name();
+        let case = Case { call, tree };
+        let verdict = expected.verdict(tree.types, lent);
+        match self.answer(tree, expected, lent, verdict) {
+            Ok(()) => self.settle(&case, verdict),
+            Err(what) => self.tally.differ(&case, &what),
+        }
+    }
+
+    fn answer(
+        &mut self,
+        tree: &Handed,
+        expected: &Expected,
+        lent: &Slices,
+        verdict: Verdict,
+    ) -> Result<(), String> {
+        let (work, guard) = self.lent.filled(lent.work, lent.filling);
+        refill(&mut self.out, lent.room, UNTOUCHED);
+        refill(&mut self.packed, lent.packed, UNTOUCHED as u16);
+        let out = &mut self.out[..lent.room];
+        let packed = &mut self.packed[..lent.packed];
+        let mut info = [UNTOUCHED; 4];
+        let held = &mut info[..lent.held];
+        let number = match expected.call {
+            Call::Materialise => tree_ours::materialise(tree, work, out, held),
+            Call::List => tree_ours::list(tree, work, out, held),
+            Call::Balance => tree_ours::balance(tree, work, out, packed, held),
+        };
+        let [first, second] = verdict.counts;
+        let mut wanted = [verdict.place, first, second, UNTOUCHED];
+        wanted[lent.held..].fill(UNTOUCHED);
+        if number != verdict.number || info != wanted {
+            let Slices { held, filling, .. } = lent;
+            return Err(format!(
+                "library {number} {info:x?}, expected {verdict:?}, {held} words held, work of {filling:?}"
+            ));
+        }
+        if guard.iter().any(|&word| word != UNTOUCHED) {
+            return Err(String::from("words behind the work slice were written"));
+        }
+        front_only(&self.out, &expected.written, number, UNTOUCHED)?;
+        front_only(&self.packed, &expected.packed, number, UNTOUCHED as u16)
+    }
+
+    /// Accepted: the Rust's answer was expected. Refused: only 1 has a counterpart in the Rust.
+    fn settle(&mut self, case: &Case, verdict: Verdict) {
+        let outcome = match verdict.number {
+            0 => Outcome::Same,
+            1 => match self.oracle.set(case.tree.types) {
+                Err(Panicked) => Outcome::Panics,
+                Ok(_) => return self.tally.differ(case, "the Rust takes so many types"),
+            },
+            11 => Outcome::Intended("11, not shown: the Rust allocates and is lent no work slice"),
+            12..=14 => Outcome::Intended("12 to 14, not shown: the Rust allocates its results"),
+            _ => Outcome::Intended("15, not shown: the Rust has trees and no cells"),
+        };
+        self.tally.count(case, verdict.number, outcome);
+    }
+}
+
+/// The work slice that materialise and balance ask for.
+fn work_for(tree: &Handed) -> usize {
+    tree_model::work_words(tree.cells.len(), tree.words.len())
+}
+
+/// So many words and some behind them, all of one value.
+fn refill<A: Clone>(words: &mut Vec<A>, count: usize, value: A) {
+    words.clear();
+    words.resize(count + BEHIND, value);
+}
+
+/// Whether an output holds what is expected at its front, and nothing new behind it; refused, nothing new at all.
+fn front_only<A: Copy + PartialEq + std::fmt::Debug>(
+    out: &[A],
+    written: &[A],
+    number: u32,
+    untouched: A,
+) -> Result<(), String> {
+    let written = if number == 0 { written } else { &[] };
+    let (front, rest) = out.split_at(written.len());
+    if front != written {
+        return Err(format!("written {}", shortened(front)));
+    }
+    if rest.iter().any(|&word| word != untouched) {
+        return Err(String::from("words behind the counted front were written"));
+    }
+    Ok(())
+}

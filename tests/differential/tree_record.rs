@@ -1,0 +1,256 @@
+//! Writes a sample of small trees with the Rust's answers, for a program of the library that is run on them.
+//!
+//! Only calls on which document 01 and the Rust agree are taken: accepted and answered, or refused where the Rust panics on the
+//! packed words or the number of types. The answers are the Rust's; the model only says which kind of call it is.
+
+use std::collections::{BTreeMap, HashSet};
+use std::path::Path;
+use std::process::ExitCode;
+use std::sync::Arc;
+
+use crate::oracle::{Oracle, Panicked, guarded};
+use crate::rng::Rng;
+use crate::tree::NodeSet;
+use crate::tree_model::{self, Handed};
+use crate::{Tree, flatten, record, tree_cases, tree_rust, trees};
+
+/// Enough tries to fill every kind that can be filled.
+const TRIES: usize = 40_000;
+
+/// The largest trees that are taken: words of cells, before and after, and packed words.
+const MOST_CELLS: usize = 210;
+const MOST_WORDS: usize = 120;
+
+/// What stands in the output slice before a call.
+const BEFORE: u32 = 7;
+
+#[derive(Default)]
+struct Sample {
+    oracle: Oracle,
+    /// How many calls of each kind have been taken.
+    kinds: BTreeMap<String, usize>,
+    lines: HashSet<String>,
+    asked: String,
+    answered: String,
+}
+
+pub fn run(seed: u64, into: &Path) -> ExitCode {
+    let mut sample = Sample::default();
+    let sets = trees::small_sets(&mut sample.oracle);
+    let mut rng = Rng::new(seed);
+    sample.examples(&mut rng);
+    for _ in 0..TRIES {
+        sample.draw(&mut rng, &sets);
+    }
+    for (kind, count) in &sample.kinds {
+        println!("{count:5} {kind}");
+    }
+    println!("seed {seed}: {} calls", sample.lines.len());
+    record::write(into, &sample.asked, &sample.answered)
+}
+
+/// The call of a line, by its first number.
+#[derive(Clone, Copy)]
+enum Call {
+    Materialise = 1,
+    List = 2,
+    Balance = 3,
+}
+
+impl Call {
+    fn name(self) -> &'static str {
+        match self {
+            Self::Materialise => "materialise",
+            Self::List => "list",
+            Self::Balance => "balance",
+        }
+    }
+}
+
+/// What the Rust answers: cells or lines, and packed words.
+#[derive(Default)]
+struct Answer {
+    written: Vec<u32>,
+    words: Vec<u16>,
+}
+
+impl Answer {
+    /// The answer of an accepted call, without the outputs.
+    fn counted(&self, call: Call) -> String {
+        let Self { written, words } = self;
+        match call {
+            Call::Materialise => format!("cells {}", written.len() / 7),
+            Call::List => format!("lines {}", written.len() / 4),
+            Call::Balance => format!("cells {} words {}", written.len() / 7, words.len()),
+        }
+    }
+}
+
+impl Sample {
+    /// Document 01's list P, built with each of its three bounds.
+    fn examples(&mut self, rng: &mut Rng) {
+        let one = [1, 0, 0, 6, 2, 1, 0, 2, 0, 0, 6, 0, 12, 0];
+        let two = [
+            1, 0, 0, 6, 2, 1, 0, 1, 3, 0, 6, 3, 1, 0, 2, 0, 0, 5, 0, 8, 0,
+        ];
+        let four = [
+            1, 0, 0, 6, 2, 1, 0, 1, 3, 0, 6, 3, 2, 0, 1, 1, 0, 2, 0, 0, 4, 1, 2, 3, 2, 0, 0, 0,
+        ];
+        let all: [(&[u32], &[u16]); 3] = [
+            (&one, &[3, 0, 6, 12, 1, 0, 2, 8, 2, 3, 5, 12]),
+            (&two, &[1, 0, 2, 4, 2, 3, 5, 8]),
+            (&four, &[]),
+        ];
+        for (cells, words) in all {
+            let tree = Handed {
+                types: 4,
+                first_repeat: 4,
+                start: 0,
+                cells: cells.to_vec(),
+                words: words.to_vec(),
+            };
+            self.calls(rng, &tree);
+        }
+    }
+
+    /// A random tree, now and then with a packed word changed or too many types.
+    fn draw(&mut self, rng: &mut Rng, sets: &[Arc<NodeSet>]) {
+        let mut tree = trees::any_tree(&mut self.oracle, rng, sets);
+        if rng.one_in(3) && !tree.words.is_empty() {
+            tree = tree_cases::with_packed_word_changed(rng, &tree);
+        }
+        if rng.one_in(60) {
+            tree.types = rng.pick(&[65_537, u32::MAX]);
+        }
+        self.calls(rng, &tree);
+    }
+
+    /// Materialise and balance, and list on the Rust's materialised tree.
+    fn calls(&mut self, rng: &mut Rng, tree: &Handed) {
+        if tree.cells.len() > MOST_CELLS || tree.words.len() > MOST_WORDS {
+            return;
+        }
+        let bad = tree_model::bad_cell(tree.types, 0, true, &tree.cells, &tree.words);
+        let number = match (tree.types > 65_536, bad) {
+            (true, _) => 1,
+            (false, Some(_)) => 15,
+            (false, None) => 0,
+        };
+        let rust = self.rust(tree);
+        let balanced = rust.clone().map(|rust| cells_answer(&rust.balance()));
+        self.agreed(rng, Call::Balance, tree, number, balanced);
+        let materialised = rust.and_then(|rust| guarded(|| rust.materialize()));
+        let cells = materialised.clone().map(|rust| cells_answer(&rust));
+        self.agreed(rng, Call::Materialise, tree, number, cells);
+        if let (0, Ok(materialised)) = (number, materialised) {
+            self.list(rng, tree, &materialised);
+        }
+    }
+
+    /// The Rust's tree of cells whose links are good.
+    fn rust(&mut self, tree: &Handed) -> Result<Tree, Panicked> {
+        let set = self.oracle.set(tree.types)?;
+        guarded(|| tree_rust::tree_of(tree, &set))
+    }
+
+    /// Takes a call if it is accepted and the Rust answers, or refused and the Rust panics.
+    fn agreed(
+        &mut self,
+        rng: &mut Rng,
+        call: Call,
+        tree: &Handed,
+        number: u32,
+        answer: Result<Answer, Panicked>,
+    ) {
+        if (number == 0) == answer.is_ok() {
+            self.take(rng, call, tree, number, answer.unwrap_or_default());
+        }
+    }
+
+    fn list(&mut self, rng: &mut Rng, tree: &Handed, materialised: &Tree) {
+        let listed = Handed {
+            cells: cells_answer(materialised).written,
+            words: Vec::new(),
+            ..*tree
+        };
+        let bad = tree_model::bad_cell(listed.types, listed.start, false, &listed.cells, &[]);
+        if bad.is_none() {
+            let lines = flatten::lines(materialised, listed.first_repeat, listed.start);
+            let answer = Answer {
+                written: tree_rust::narrow(&lines),
+                words: Vec::new(),
+            };
+            self.take(rng, Call::List, &listed, 0, answer);
+        }
+    }
+
+    /// Takes a call with the Rust's answer unless it is too large, its kind is full or it has been taken before.
+    fn take(&mut self, rng: &mut Rng, call: Call, tree: &Handed, number: u32, answer: Answer) {
+        if tree.cells.len().max(answer.written.len()) > MOST_CELLS {
+            return;
+        }
+        let room = answer.written.len() + rng.pick(&[0, 0, 3]);
+        let changed = matches!(call, Call::Balance) && number == 0 && answer.written != tree.cells;
+        let taken = self.kinds.entry(kind(call, tree, number, changed));
+        let taken = taken.or_default();
+        let asked = line(call, tree, room);
+        if *taken >= quota(call, number) || !self.lines.insert(asked.clone()) {
+            return;
+        }
+        *taken += 1;
+        self.asked.push_str(&asked);
+        let told = match number {
+            0 => answer.counted(call),
+            _ => String::from("refused"),
+        };
+        let (mut out, mut words) = (answer.written, answer.words);
+        out.resize(room, BEFORE);
+        words.resize(tree.words.len(), BEFORE as u16);
+        let out = record::spaced(&out);
+        let words = match call {
+            Call::Balance => format!(" :{}", record::spaced(&words)),
+            _ => String::new(),
+        };
+        self.answered.push_str(&format!("{told} :{out}{words}\n"));
+    }
+}
+
+/// Cells and words of a Rust tree.
+fn cells_answer(tree: &Tree) -> Answer {
+    let (written, words) = tree_rust::cells_of(tree);
+    Answer { written, words }
+}
+
+fn quota(call: Call, number: u32) -> usize {
+    match (call, number) {
+        (Call::Materialise | Call::Balance, 0) => 14,
+        (Call::List, 0) => 40,
+        _ => 60,
+    }
+}
+
+/// Each number of parts and of trees of kind 3 is a kind of its own, up to a few, where a call is accepted.
+fn kind(call: Call, tree: &Handed, number: u32, changed: bool) -> String {
+    let name = call.name();
+    if number != 0 {
+        return format!("{name} refused with {number}");
+    }
+    let of_kind = |kind| tree.cells.chunks(7).filter(|cell| cell[0] == kind).count();
+    let (parts, none) = (of_kind(2).min(3), of_kind(3).min(3));
+    let how = if changed { " that change" } else { "" };
+    format!("{name}, {parts} parts, {none} trees of kind 3{how}")
+}
+
+fn line(call: Call, tree: &Handed, room: usize) -> String {
+    format!(
+        "{} {} {} {} {room} {} {}{}{}\n",
+        call as u32,
+        tree.types,
+        tree.first_repeat,
+        tree.start,
+        tree.cells.len(),
+        tree.words.len(),
+        record::spaced(&tree.cells),
+        record::spaced(&tree.words)
+    )
+}

@@ -1,0 +1,184 @@
+//! The runs over the tree calls: short slices of cells, all of them; large trees; random and damaged ones.
+
+use std::process::ExitCode;
+use std::sync::Arc;
+use std::time::Instant;
+
+use crate::list_cases::{self, Shape, Stuff};
+use crate::oracle::Oracle;
+use crate::rng::Rng;
+use crate::shapes;
+use crate::tree::{NodeSet, TreeBuild};
+use crate::tree_cases::{self, Mix};
+use crate::tree_compare::TreeSession;
+use crate::tree_model::Handed;
+use crate::tree_rust::cells_of;
+use crate::tree_short;
+use crate::{TextSize, Tree, random_lists};
+
+/// Damaged copies of each random tree.
+const COPIES: usize = 3;
+
+/// The Rust recurses once for each nested tree, so that deep trees need a large stack.
+const STACK: usize = 1 << 30;
+
+/// Compares so many random trees, beside short and large ones.
+pub fn run(seed: u64, cases: u64) -> ExitCode {
+    let work = std::thread::Builder::new().stack_size(STACK);
+    let thread = work.spawn(move || compare(seed, cases));
+    let joined = thread.expect("a thread").join();
+    joined.unwrap_or(ExitCode::FAILURE)
+}
+
+fn compare(seed: u64, cases: u64) -> ExitCode {
+    println!("seed {seed}, {cases} random trees with {COPIES} damaged copies each");
+    let mut session = TreeSession::default();
+    let mut rng = Rng::new(seed);
+    let sets = small_sets(session.oracle());
+    timed(
+        &mut session,
+        "short slices of cells, all of them",
+        tree_short::run,
+    );
+    timed(&mut session, "large trees", |session| {
+        large(session, &mut rng)
+    });
+    timed(&mut session, "random and damaged trees", |session| {
+        for _ in 0..cases {
+            random(session, &mut rng, &sets);
+        }
+    });
+    println!("{}", session.seen);
+    session.tally.print();
+    if session.tally.unexplained() > 0 {
+        return ExitCode::FAILURE;
+    }
+    ExitCode::SUCCESS
+}
+
+fn timed(session: &mut TreeSession, what: &str, work: impl FnOnce(&mut TreeSession)) {
+    let (before, start) = (session.seen.trees, Instant::now());
+    work(session);
+    let trees = session.seen.trees - before;
+    let seconds = start.elapsed().as_secs_f64();
+    println!("{what}: {trees} trees, {seconds:.1} s");
+}
+
+/// The sets of up to six types that Rust trees of random shapes are made of.
+pub fn small_sets(oracle: &mut Oracle) -> Vec<Arc<NodeSet>> {
+    let set = |types| oracle.set(types).expect("a set of few types");
+    (0..=6).map(set).collect()
+}
+
+/// A random tree, and copies that are damaged or handed in with other numbers.
+fn random(session: &mut TreeSession, rng: &mut Rng, sets: &[Arc<NodeSet>]) {
+    let tree = any_tree(session.oracle(), rng, sets);
+    session.check(&tree);
+    for _ in 0..COPIES {
+        let mut copy = tree_cases::damaged(rng, &tree);
+        if rng.one_in(10) {
+            copy = tree.clone();
+            renumber(rng, &mut copy);
+        }
+        session.check(&copy);
+    }
+}
+
+/// Other numbers for the same cells: types around the boundaries, another start.
+fn renumber(rng: &mut Rng, tree: &mut Handed) {
+    let types = tree.types;
+    let end = tree.cells.chunks(7).map(|cell| cell[3]).max().unwrap_or(0);
+    match rng.below(3) {
+        0 => tree.types = rng.pick(&[0, types - 1, types + 1, 65_537, u32::MAX]),
+        1 => tree.start = rng.pick(&[u32::MAX, u32::MAX - end, (u32::MAX - end).wrapping_add(1)]),
+        _ => tree.first_repeat = rng.pick(&[0, 1, types, types + 1, u32::MAX]),
+    }
+}
+
+/// A tree written as cells, a Rust tree of a random shape, or one that the Rust builds.
+pub fn any_tree(oracle: &mut Oracle, rng: &mut Rng, sets: &[Arc<NodeSet>]) -> Handed {
+    match rng.below(10) {
+        0..4 => written(rng),
+        4..7 => {
+            let sample = shapes::random(rng, sets);
+            handed(
+                sample.types,
+                sample.first_repeat,
+                sample.start,
+                &sample.tree,
+            )
+        }
+        _ => built(oracle, rng),
+    }
+}
+
+fn handed(types: u32, first_repeat: u32, start: u32, tree: &Tree) -> Handed {
+    let (cells, words) = cells_of(tree);
+    Handed {
+        types,
+        first_repeat,
+        start,
+        cells,
+        words,
+    }
+}
+
+fn written(rng: &mut Rng) -> Handed {
+    let stuff = Stuff {
+        types: rng.pick(&[1, 2, 5, 300, 65_535, 65_536]),
+        start: rng.pick(&[0, 0, 1, 5, 70_000, u32::MAX - 30]),
+        gap: rng.pick(&[0, 1, 3]),
+        length: rng.pick(&[0, 1, 3, 20, 20_000, 100_000_000]),
+    };
+    let most = rng.pick(&[1, 4, 12, 40, 120, 400]);
+    let (nodes, shape) = (rng.below(most + 1), list_cases::any_shape(rng));
+    let mix = tree_cases::any_mix(rng);
+    tree_cases::good_tree(rng, &stuff, nodes, shape, mix)
+}
+
+/// The tree of a random record list, with the numbers of its build.
+fn built(oracle: &mut Oracle, rng: &mut Rng) -> Handed {
+    let list = random_lists::random(rng);
+    let set = oracle.set(list.types).expect("types of a list");
+    let mut build = TreeBuild::new(list.records(), set, list.top as u16);
+    build.start = TextSize::new(list.start);
+    build.length = list.given.map(TextSize::new);
+    build.max_buffer_length = TextSize::new(list.bound);
+    build.min_repeat_type = list.first_repeat as usize;
+    let tree = Tree::build(&build);
+    handed(list.types, list.first_repeat, list.start, &tree)
+}
+
+/// Thousands of cells, wide and deep, and parts of as many records as end indices reach; damaged copies.
+fn large(session: &mut TreeSession, rng: &mut Rng) {
+    let shapes = [
+        Shape::Flat,
+        Shape::Chain,
+        Shape::Mixed(60, 5),
+        Shape::Wide(999),
+        Shape::Binary,
+    ];
+    let stuff = Stuff {
+        types: 300,
+        start: 0,
+        gap: 1,
+        length: 2,
+    };
+    let mixes = [
+        (0, 0, 1),
+        (0, 90, 1),
+        (2, 10, 16_383),
+        (100, 0, 16_383),
+        (30, 30, 7),
+    ];
+    for shape in shapes {
+        for (parts, none, run) in mixes {
+            for nodes in [1_000, 16_383, 16_384] {
+                let mix = Mix { parts, none, run };
+                let tree = tree_cases::good_tree(rng, &stuff, nodes, shape, mix);
+                session.check(&tree);
+                session.check(&tree_cases::damaged(rng, &tree));
+            }
+        }
+    }
+}
