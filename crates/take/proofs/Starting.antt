@@ -16,6 +16,8 @@ use Rattle.cursor.proofs.Spelled.{spells-count}
 use Rattle.scan.specs.Walked.{Remembered, Scans}
 use Rattle.scan.specs.declared.Memo.{Memo}
 use Rattle.scan.proofs.Memory.{remembered-lower}
+use Rattle.reader.specs.Before.{record-before}
+use Rattle.reader.specs.declared.Record.{Record}
 use Rattle.pack.specs.Taking.{Filled, Takable, Takes}
 use Rattle.pack.specs.declared.Part.{Part}
 use Rattle.pack.specs.declared.Taken.{Taken}
@@ -188,6 +190,6 @@ module _ (F b : ℕ) (own : Option ℕ) (w l : List ℕ) (s : State) (q : Starts
           }),
         )
 
-pub pending-is : (w : List ℕ) (p : ℕ) (memo : Memo) (last id start end n : ℕ) → last ≡ p - 1 → id ≡ id-of w last → start ≡ start-of w last → end ≡ end-of w last → n ≡ last-of w last / 4
-    → _≡_ {A = PendingNode} (record { node = record { id = id; start = start; end = end; floor = p - n }; memo = memo }) (pending w p memo)
-pending-is w p memo last id start end n l a b c d = rw (a, b, c, d, l) refl
+pub pending-is : (w : List ℕ) (p : ℕ) (memo : Memo) (r : Record) → r ≡ record-before w p
+    → _≡_ {A = PendingNode} (record { node = record { id = r .id; start = r .start; end = r .end; floor = p - r .size / 4 }; memo = memo }) (pending w p memo)
+pending-is w p memo r h = rw h refl

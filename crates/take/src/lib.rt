@@ -222,12 +222,12 @@ fn pending_node(records: &[u32], p: usize, memo: scan::Memo) -> PendingNode
     requires { ⌜ last-of (now records) (p - 1) / 4 ≤ p ⌝ }
     ensures { λ r. ⌜ r ≡ pending (now (records .entry)) p memo ⌝ }
 {
-    let last = records::back(p);
+    let last = reader::last_record(records, p);
     let node = Node {
-        id: records::id_at(records, last),
-        start: records::start_at(records, last),
-        end: records::end_at(records, last),
-        floor: (p - records::span_at(records, last)) as u32,
+        id: last.id,
+        start: last.start,
+        end: last.end,
+        floor: (p - (last.size / 4) as usize) as u32,
     };
     PendingNode {
         node: node,
