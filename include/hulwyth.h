@@ -39,6 +39,32 @@ uint32_t hulwyth_check(uint32_t types, uint32_t first_repeat, uint32_t bound, ui
                        const uint32_t *records, size_t records_len, uint32_t *work, size_t work_len,
                        uint32_t *info, size_t info_len);
 
+/* Builds the tree of a record list. First count: the cells written; second count: the packed words written. Refusals 1 to 5, 11, 6 to
+ * 10, 12, 13, in this order.
+ *
+ * types         T, the number of node types: at most 65,536 (1)
+ * first_repeat  F: ids from F up are repeat records
+ * bound         b, the length bound: at most 65,535 (2); a record no longer than b may be packed
+ * start         S, the build start: no first-level record starts before it (10)
+ * top           the id of the top: below T (3)
+ * given         0: no length is given, and the top ends with its last child; any other number: the top's length is given
+ * length        the top's length; it decides nothing where given is 0
+ * records       four words a record: id, start, end, size; children before parents
+ * records_len   its words: a multiple of 4 (4), at most 4,194,304 (5)
+ * work          scratch space
+ * work_len      its words: at least 96 for each record and 96 more (11)
+ * cells         the cells of the result, seven words each, as hulwyth_materialise takes them
+ * cells_len     its words: at least seven for each cell of the result (12)
+ * words         the words of the result's packed parts
+ * words_len     how many: at least those of the result (13); four for each record always suffice
+ * info          place and counts
+ * info_len      its words
+ */
+uint32_t hulwyth_build(uint32_t types, uint32_t first_repeat, uint32_t bound, uint32_t start, uint32_t top,
+                       uint32_t given, uint32_t length, const uint32_t *records, size_t records_len,
+                       uint32_t *work, size_t work_len, uint32_t *cells, size_t cells_len,
+                       uint16_t *words, size_t words_len, uint32_t *info, size_t info_len);
+
 /* Writes the cells of a tree with each packed record as a tree of its own. First count: the cells written; second count: 0, no
  * packed words are written. Refusals 1, 11, 15, 12.
  *

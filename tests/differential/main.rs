@@ -1,6 +1,15 @@
 //! The differential driver: library, model and Rust on the same inputs.
 
 mod bench;
+mod build_bench;
+mod build_bundles;
+mod build_case;
+mod build_compare;
+mod build_ours;
+mod build_record;
+mod build_short;
+mod build_tally;
+mod builds;
 mod cases;
 mod compare;
 mod lent;
@@ -73,10 +82,12 @@ fn options() -> Result<Options, String> {
     let into = match command.as_str() {
         "record-lists" => "crates/record_vectors",
         "record-trees" => "crates/tree_vectors",
+        "record-builds" => "crates/build_vectors",
         _ => "crates/part_vectors",
     };
     let cases = match command.as_str() {
         "trees" => 300_000,
+        "builds" => 12_000_000,
         _ => 6_000_000,
     };
     let mut options = Options {
@@ -114,6 +125,9 @@ fn main() -> ExitCode {
         "lists" => lists::run(options.seed, options.cases),
         "trees" => trees::run(options.seed, options.cases),
         "bench-trees" => tree_bench::run(options.seed),
+        "builds" => builds::run(options.seed, options.cases),
+        "bench-builds" => build_bench::run(options.seed),
+        "record-builds" => build_record::run(options.seed, &options.into),
         "bench-lists" => list_bench::run(options.seed),
         "record-lists" => list_record::run(options.seed, &options.into),
         "record-trees" => tree_record::run(options.seed, &options.into),

@@ -9,6 +9,7 @@ use std::panic::{AssertUnwindSafe, catch_unwind, set_hook, take_hook};
 use std::sync::Arc;
 
 use crate::TextSize;
+use crate::list_model::List;
 
 #[allow(dead_code, unused_imports, clippy::all)]
 pub mod prop {
@@ -110,7 +111,12 @@ impl Oracle {
     }
 
     /// The build: the tree of a list of records. Document 01's top id has 32 bits and the Rust's 16.
-    pub fn build(&mut self, list: &crate::list_model::List) -> Result<Tree, Panicked> {
+    pub fn build(&mut self, list: &List) -> Result<Tree, Panicked> {
+        self.build_given(list, None)
+    }
+
+    /// The same with a given length or none.
+    pub fn build_given(&mut self, list: &List, given: Option<u32>) -> Result<Tree, Panicked> {
         let set = self.set(list.types)?;
         let top = u16::try_from(list.top).map_err(|_| Panicked)?;
         let build = TreeBuild {
@@ -118,7 +124,7 @@ impl Oracle {
             node_set: set,
             top_id: top,
             start: TextSize::new(list.start),
-            length: None,
+            length: given.map(TextSize::new),
             max_buffer_length: TextSize::new(list.bound),
             min_repeat_type: list.first_repeat as usize,
         };

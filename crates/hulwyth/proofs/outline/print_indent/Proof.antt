@@ -1,0 +1,25 @@
+-- `hulwyth::outline::print_indent` is safe and ends: each turn writes one step. Assumes nothing.
+use borrow.Author.Needs.{needs}
+use Prim.Native.Nat.{_-_}
+use Rattle.hulwyth.proofs.outline.print_indent.Statement.{statement}
+use Rattle.hulwyth.proofs.outline.print_indent.Tie as tie
+
+abbrev Inv-loop : tie.InvT-loop
+Inv-loop depth i₀ t3 i = Unit {0}
+
+abbrev μ-loop : tie.MeasureT-loop
+μ-loop depth i₀ t3 i = depth - i
+
+pub print-indent-spec : {M : Type 1} → statement M
+print-indent-spec =
+    tie.close
+    (tie.spec
+    Inv-loop
+    μ-loop
+    (λ c. search needs)
+    (λ c. search needs)
+    (λ c κs. search needs)
+    (λ c. search needs)
+    (λ c. search needs)
+    (λ c. search needs)
+    (λ c. search needs))

@@ -1,0 +1,56 @@
+-- `hulwyth::print_lines` is safe and ends: each turn takes the next line, of which there are a quarter as many as words. Assumes nothing.
+use borrow.Author.Needs.{needs}
+use mathlib.Core.Path.{_≡_}
+use Prim.Native.Nat.{_-_, _≤_, _/_}
+use lib.ListN.{length}
+use Rattle.hulwyth.proofs.print_lines.Statement.{statement}
+use Rattle.hulwyth.proofs.print_lines.Tie as tie
+
+abbrev Inv-loop : tie.InvT-loop
+Inv-loop names lines count i₀ t6 t7 t8 t9 t10 i = (i ≤ count) × (count ≡ length lines / 4)
+
+abbrev μ-loop : tie.MeasureT-loop
+μ-loop names lines count i₀ t6 t7 t8 t9 t10 i = count - i
+
+pub print-lines-spec : {M : Type 1} → statement M
+print-lines-spec =
+    tie.close
+    (tie.spec
+    Inv-loop
+    μ-loop
+    (λ c. search needs)
+    (λ c κs. search needs)
+    (λ c. search needs)
+    (λ c. search needs)
+    (λ c. search needs)
+    (λ c. search needs)
+    (λ c. search needs)
+    (λ c κs. search needs)
+    (λ c κs. search needs)
+    (λ c. search needs)
+    (λ c κs. search needs)
+    (λ c. search needs)
+    (λ c. search needs)
+    (λ c. search needs)
+    (λ c. search needs)
+    (λ c κs. search needs)
+    (λ c. search needs)
+    (λ c. search needs)
+    (λ c. search needs)
+    (λ c. search needs)
+    (λ c. search needs)
+    (λ c κs. search needs)
+    (λ c κs. search needs)
+    (λ c. search needs)
+    (λ c. search needs)
+    (λ c. search needs)
+    (λ c. search needs)
+    (λ c. search needs)
+    (λ c κs. search needs)
+    (λ c κs. search needs)
+    (λ c. search needs)
+    (λ c κs. search needs)
+    (λ c. search needs)
+    (λ c. search needs)
+    (λ c. search needs)
+    (λ c. search needs))

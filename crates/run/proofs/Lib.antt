@@ -1,0 +1,4 @@
+pub mod Fitting
+pub mod Stepping
+pub mod OneRun
+pub mod TwoRuns

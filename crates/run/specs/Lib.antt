@@ -1,0 +1,3 @@
+pub mod Running
+pub mod Answer
+pub mod Lent

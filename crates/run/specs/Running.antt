@@ -1,0 +1,69 @@
+-- A run by its calls: "a build, materialise on the cells and words it wrote, then listing on the cells that materialise wrote, with
+-- one T, F and S throughout". The calls are those that `build`, `materialize` and `list` are proved to make.
+use mathlib.Core.List.{List, [], _∷_, _++_}
+use mathlib.Core.Option.{Option}
+use Prim.Native.Nat.{ℕ, suc, _*_}
+use lib.ListN.{length, getD, take}
+use Rattle.words.specs.Outcome.{Outcome, accepted, refused, counts-of, Result}
+use Rattle.tree.specs.Cells.{cell-width}
+use Rattle.tree.specs.Calls.{build-call}
+use Rattle.rules.specs.Calls.{line-width, materialise-call, list-call}
+
+-- What calls in turn give: the outcome of the one that is refused, else the counts of all, in the order of the calls; how many are
+-- accepted; and what the output slices of all then hold.
+pub record Steps : Type 0 where
+  pub outcome : Outcome
+  pub calls : ℕ
+  pub outputs : List (List ℕ)
+
+-- no call
+abbrev pub none-left : Steps
+none-left = record { outcome = accepted []; calls = 0; outputs = [] }
+
+-- the counts of an accepted call before those of the calls after it
+abbrev pub with-counts : List ℕ → Outcome → Outcome
+with-counts counts (accepted more) = accepted (counts ++ more)
+with-counts counts (refused number place) = refused number place
+
+-- A call with its outcome and outputs. Accepted, it is followed by the calls `rest`; refused, their outputs stay as they were before.
+abbrev pub followed : Outcome → (outputs : List (List ℕ)) (rest : Steps) (before : List (List ℕ)) → Steps
+followed (accepted counts) outputs rest before = record { outcome = with-counts counts (rest .outcome); calls = suc (rest .calls); outputs = outputs ++ rest .outputs }
+followed (refused number place) outputs rest before = record { outcome = refused number place; calls = 0; outputs = outputs ++ before }
+
+-- a count of a call, and an output slice, both from 0
+abbrev pub count-at : Outcome → ℕ → ℕ
+count-at o i = getD (counts-of o) i 0
+
+abbrev pub output-at : List (List ℕ) → ℕ → List ℕ
+output-at outputs i = getD outputs i []
+
+-- listing, the last call
+unfoldable pub list-steps : (T F S : ℕ) (cs : List ℕ) (work : ℕ) (lines : List ℕ) → Steps
+list-steps T F S cs work lines =
+    let r = list-call T F S cs work lines in
+    followed (r .outcome) (r .outputs) none-left []
+
+-- materialise, then listing "on the cells that materialise wrote": the counted front of its output
+unfoldable pub read-call : (T F S : ℕ) (cs ws : List ℕ) (work : ℕ) (trees lines : List ℕ) → Steps
+read-call T F S cs ws work trees lines =
+    let r = materialise-call T cs ws work trees in
+    followed (r .outcome) (r .outputs) (list-steps T F S (take (cell-width * count-at (r .outcome) 0) (output-at (r .outputs) 0)) work lines) (lines ∷ [])
+
+-- the build, then materialise "on the cells and words it wrote" and listing: the counted fronts of its outputs
+unfoldable pub run-call : (T F b S top : ℕ) (given : Option ℕ) (work : ℕ) (records cells words trees lines : List ℕ) → Steps
+run-call T F b S top given work records cells words trees lines =
+    let r = build-call T F b S top given work records cells words in
+    let cs = take (cell-width * count-at (r .outcome) 0) (output-at (r .outputs) 0) in
+    let ws = take (count-at (r .outcome) 1) (output-at (r .outputs) 1) in
+    followed (r .outcome) (r .outputs) (read-call T F S cs ws work trees lines) (trees ∷ lines ∷ [])
+
+-- What an accepted run wrote, the counted front of each output: the cells and packed words of the build, and the lines. The counts are
+-- cells and words of the build, cells and words of materialise, lines.
+abbrev pub cells-of : Steps → List ℕ
+cells-of s = take (cell-width * count-at (s .outcome) 0) (output-at (s .outputs) 0)
+
+abbrev pub words-of : Steps → List ℕ
+words-of s = take (count-at (s .outcome) 1) (output-at (s .outputs) 1)
+
+abbrev pub lines-of : Steps → List ℕ
+lines-of s = take (line-width * count-at (s .outcome) 4) (output-at (s .outputs) 3)

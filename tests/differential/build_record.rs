@@ -1,0 +1,160 @@
+//! Writes a sample of small lists with the Rust's trees, for a program of the library that is run on them.
+//!
+//! Only lists on which document 01 and the Rust agree are taken: accepted and built, or refused where the Rust panics. The
+//! answers are the Rust's; the model only says whether a list is refused.
+
+use std::collections::{BTreeMap, HashSet};
+use std::path::Path;
+use std::process::ExitCode;
+
+use crate::build_case::{Case, Numbers, reading};
+use crate::list_cases;
+use crate::list_model;
+use crate::oracle::Oracle;
+use crate::rng::Rng;
+use crate::{random_lists, record, tree_rust};
+
+/// Enough tries to fill every kind that can be filled.
+const TRIES: usize = 60_000;
+
+/// The longest lists that are taken.
+const MOST_RECORDS: usize = 60;
+
+/// What stands in the output slices before a call.
+const BEFORE: u16 = 7;
+
+#[derive(Default)]
+struct Sample {
+    oracle: Oracle,
+    /// How many lists of each kind have been taken.
+    kinds: BTreeMap<String, usize>,
+    lines: HashSet<String>,
+    asked: String,
+    answered: String,
+}
+
+pub fn run(seed: u64, into: &Path) -> ExitCode {
+    let mut sample = Sample::default();
+    let mut rng = Rng::new(seed);
+    sample.examples(&mut rng);
+    for _ in 0..TRIES {
+        sample.draw(&mut rng);
+    }
+    for (kind, count) in &sample.kinds {
+        println!("{count:5} {kind}");
+    }
+    println!("seed {seed}: {} lists", sample.lines.len());
+    record::write(into, &sample.asked, &sample.answered)
+}
+
+impl Sample {
+    /// Document 01's examples.
+    fn examples(&mut self, rng: &mut Rng) {
+        let list = [1, 0, 2, 4, 2, 3, 5, 4, 3, 0, 6, 12];
+        for bound in [1_024, 5, 1] {
+            self.take(rng, &Numbers::plain(4, 4, bound).with(&list));
+        }
+        for start in [5, 6] {
+            let numbers = Numbers {
+                start,
+                ..Numbers::plain(4, 4, 1_024)
+            };
+            self.take(rng, &numbers.with(&[1, 5, 7, 4]));
+        }
+        let grouped = [1, 0, 2, 4, 2, 0, 2, 8, 1, 2, 4, 4, 2, 2, 4, 8, 2, 0, 4, 20];
+        self.take(rng, &Numbers::plain(3, 2, 2).with(&grouped));
+        self.take(rng, &Numbers::plain(4, 4, 1_024).with(&[]));
+    }
+
+    /// A random list, now and then with one thing wrong.
+    fn draw(&mut self, rng: &mut Rng) {
+        let list = random_lists::random(rng);
+        let mut words = list.records();
+        if rng.one_in(4) {
+            words = list_cases::damaged(rng, list.types, &words);
+        }
+        let mut numbers = Numbers {
+            types: list.types,
+            first_repeat: list.first_repeat,
+            bound: list.bound,
+            start: list.start,
+            top: list.top,
+            given: list.given,
+        };
+        match rng.below(90) {
+            0 => numbers.types = 65_537,
+            1 => numbers.bound = 65_536,
+            2 => numbers.top = numbers.types,
+            _ => {}
+        }
+        self.take(rng, &numbers.with(&words));
+    }
+
+    /// Takes a list with the Rust's answer unless it is too long, its kind is full or it has been taken before.
+    fn take(&mut self, rng: &mut Rng, case: &Case) {
+        if case.list.words.len() > 4 * MOST_RECORDS {
+            return;
+        }
+        let number = list_model::check(&case.list).number;
+        let built = self.oracle.build_given(&case.list, case.given);
+        if (number == 0) != built.is_ok() {
+            return;
+        }
+        let (mut cells, mut words) =
+            built.map_or_else(|_| Default::default(), |tree| tree_rust::cells_of(&tree));
+        let taken = self.kinds.entry(kind(case, number, &cells)).or_default();
+        let room = [cells.len(), words.len()].map(|used| used + rng.pick(&[0, 0, 3]));
+        let asked = line(case, room);
+        if *taken >= quota(number) || !self.lines.insert(asked.clone()) {
+            return;
+        }
+        *taken += 1;
+        let told = match number {
+            0 => format!("cells {} words {}", cells.len() / 7, words.len()),
+            _ => String::from("refused"),
+        };
+        cells.resize(room[0], BEFORE.into());
+        words.resize(room[1], BEFORE);
+        let (cells, words) = (record::spaced(&cells), record::spaced(&words));
+        self.asked.push_str(&asked);
+        self.answered
+            .push_str(&format!("{told} :{cells} :{words}\n"));
+    }
+}
+
+fn quota(number: u32) -> usize {
+    if number == 0 { 5 } else { 12 }
+}
+
+/// Each number of parts, of repeat trees and of levels is a kind of its own, up to a few, where a list is accepted.
+fn kind(case: &Case, number: u32, cells: &[u32]) -> String {
+    if number != 0 {
+        return format!("refused with {number}");
+    }
+    let list = &case.list;
+    let below = || cells.chunks(7).skip(1);
+    let parts = below().filter(|cell| cell[0] == 2).count();
+    let repeat = |cell: &&[u32]| cell[0] == 1 && cell[1] >= list.first_repeat;
+    let repeats = below().filter(repeat).count();
+    let levels = reading(list.words, list.first_repeat).levels;
+    let (parts, repeats, levels) = (parts.min(3), repeats.min(5), levels.min(4));
+    format!("{parts} parts, {repeats} repeat trees, {levels} levels")
+}
+
+/// T F b S top given length, room for cells and for words, records.
+fn line(case: &Case, room: [usize; 2]) -> String {
+    let list = &case.list;
+    format!(
+        "{} {} {} {} {} {} {} {} {}{}\n",
+        list.types,
+        list.first_repeat,
+        list.bound,
+        list.start,
+        list.top,
+        u32::from(case.given.is_some()),
+        case.given.unwrap_or(0),
+        room[0],
+        room[1],
+        record::spaced(list.words)
+    )
+}
