@@ -1,0 +1,172 @@
+/* Materialises, lists and balances trees of about 1,000,000 cells: one chain, one row of siblings, and a top with nine children of
+ * which one is a chain of trees of no type, so that balancing divides it; builds lists of 1,000,000 records. Prints the counts; a
+ * count that is not the one due is followed by WRONG, and the status is then 1. Run by tests/c/large under a native stack of
+ * 8 MiB. */
+#include "hulwyth.h"
+
+#include <stdio.h>
+#include <stdlib.h>
+
+/* crates/tree_exports: the call balance. Its info holds 64-bit words. */
+uint32_t hulwyth_balance(uint32_t types, const uint32_t *cells, size_t cells_len, const uint16_t *words, size_t words_len,
+                         uint32_t *work, size_t work_len, uint32_t *out, size_t out_len, uint16_t *packed, size_t packed_len,
+                         uint64_t *info, size_t info_len);
+
+uint32_t hulwyth_build(uint32_t types, uint32_t first_repeat, uint32_t bound, uint32_t start, uint32_t top, uint32_t given,
+                       uint32_t length, const uint32_t *records, size_t records_len, uint32_t *work, size_t work_len,
+                       uint32_t *cells, size_t cells_len, uint16_t *words, size_t words_len, uint32_t *info, size_t info_len);
+
+enum { MANY = 1000000, ROOM = 2 * MANY };
+
+static int status = 0;
+
+/* What the calls are lent. */
+static uint32_t *work, *cells, *out, *lines;
+static uint16_t *words;
+static const size_t work_len = 96 * (size_t)(MANY + 100) + 96;
+
+static void *words32(size_t count) {
+    void *at = malloc(count * sizeof(uint32_t));
+    if (at == NULL) {
+        fprintf(stderr, "no memory for %zu words\n", count);
+        exit(2);
+    }
+    return at;
+}
+
+static void put(size_t cell, uint32_t kind, uint32_t id, uint32_t position, uint32_t length, uint32_t first, uint32_t count,
+                uint32_t next) {
+    const uint32_t row[7] = {kind, id, position, length, first, count, next};
+    for (int i = 0; i < 7; i++) cells[(cell - 1) * 7 + i] = row[i];
+}
+
+/* A chain of `count` trees from cell `from` on, each with the next one as its only child; `next` follows the first of them. */
+static void put_chain(size_t from, size_t count, uint32_t kind, uint32_t id, uint32_t position, uint32_t next) {
+    for (size_t i = 0; i < count; i++) {
+        int last = i + 1 == count;
+        put(from + i, kind, id, i == 0 ? position : 0, 1, last ? 0 : (uint32_t)(from + i + 1), last ? 0 : 1, i == 0 ? next : 0);
+    }
+}
+
+/* A top and a chain of trees under it. */
+static size_t chain(uint32_t kind, uint32_t id) {
+    put(1, 1, 0, 0, 1, 2, 1, 0);
+    put_chain(2, MANY, kind, id, 0, 0);
+    return MANY + 1;
+}
+
+/* A top and leaves of length 1 under it. */
+static size_t siblings(void) {
+    put(1, 1, 0, 0, MANY, 2, MANY, 0);
+    for (uint32_t i = 0; i < MANY; i++) put(i + 2, 1, 1, i, 1, 0, 0, i + 1 == MANY ? 0 : i + 3);
+    return MANY + 1;
+}
+
+/* A top with eight leaves and, as the fifth of nine children, a chain of trees of no type. */
+static size_t nine(void) {
+    put(1, 1, 0, 0, 9, 2, 9, 0);
+    for (uint32_t i = 0; i < 4; i++) put(i + 2, 1, 1, i, 1, 0, 0, i + 3);
+    put_chain(6, MANY, 3, 0, 4, MANY + 6);
+    for (uint32_t i = 0; i < 4; i++) put(MANY + 6 + i, 1, 1, 5 + i, 1, 0, 0, i == 3 ? 0 : MANY + 7 + i);
+    return MANY + 9;
+}
+
+/* The balancing of `count` leaves, by document 01: how many cells stand below the tree that holds them. A group has one leaf less
+ * than the share, or one; a group of several is an inner tree, balanced in turn. */
+static uint64_t below(uint64_t count);
+
+static uint64_t group(uint64_t count) {
+    return count <= 1 ? count : 1 + below(count);
+}
+
+static uint64_t below(uint64_t count) {
+    uint64_t share = (3 * count + 15) / 16;
+    uint64_t size = share <= 2 ? 1 : share - 1;
+    return count / size * group(size) + group(count % size);
+}
+
+static uint64_t children(uint64_t count) {
+    uint64_t size = (3 * count + 15) / 16 - 1;
+    return (count + size - 1) / size;
+}
+
+static void say(const char *what, uint32_t number, uint64_t place, uint64_t count, uint64_t due) {
+    if (number != 0) {
+        printf("  %s: refused %u at %llu WRONG\n", what, number, (unsigned long long)place);
+        status = 1;
+        return;
+    }
+    printf("  %s: %llu", what, (unsigned long long)count);
+    if (count != due) {
+        printf(" WRONG, not %llu", (unsigned long long)due);
+        status = 1;
+    }
+    printf("\n");
+}
+
+/* All three calls on the tree that stands in `cells`. What is due: cells of the balanced tree and children of its top, lines. */
+static void run(const char *what, size_t count, uint64_t balanced, uint64_t held, uint64_t listed) {
+    uint32_t info[3];
+    uint64_t far_info[3];
+    printf("%s\n", what);
+    uint32_t number = hulwyth_materialise(4, cells, count * 7, NULL, 0, work, work_len, out, ROOM * 7, info, 3);
+    say("cells materialised", number, info[0], info[1], count);
+    number = hulwyth_list(4, 4, 0, cells, count * 7, work, work_len, lines, ROOM * 4, info, 3);
+    say("lines listed", number, info[0], info[1], listed);
+    number = hulwyth_balance(4, cells, count * 7, NULL, 0, work, work_len, out, ROOM * 7, NULL, 0, far_info, 3);
+    say("cells balanced", number, far_info[0], far_info[1], balanced);
+    say("children of the top", number, far_info[0], out[5], held);
+    fflush(stdout);
+}
+
+/* Builds the list that stands in `lines`, with b 1,024. What is due: cells and packed words. */
+static void run_build(const char *what, uint64_t due, uint64_t packed) {
+    uint32_t info[3];
+    printf("%s\n", what);
+    uint32_t number = hulwyth_build(4, 4, 1024, 0, 0, 0, 0, lines, (size_t)MANY * 4, work, work_len, cells, (size_t)ROOM * 7,
+                                    words, (size_t)MANY * 4, info, 3);
+    say("cells built", number, info[0], info[1], due);
+    say("packed words", number, info[0], info[2], packed);
+    fflush(stdout);
+}
+
+static void record(size_t at, uint32_t id, uint32_t start, uint32_t end, uint32_t size) {
+    const uint32_t record[4] = {id, start, end, size};
+    for (int i = 0; i < 4; i++) lines[at * 4 + i] = record[i];
+}
+
+/* A chain of records from 0 to 2,000: 2,502 trees, and a part with the innermost record. */
+static void build_chain(void) {
+    for (size_t i = 0; i < MANY; i++) record(i, 1, 0, 2000, (uint32_t)(i + 1) * 4);
+    run_build("records: a chain of 1000000 from 0 to 2000", 1 + 2502 + 1, 4);
+}
+
+/* Records of length 2,000 side by side: a tree of each. */
+static void build_siblings(void) {
+    for (size_t i = 0; i < MANY; i++) record(i, 1, (uint32_t)i * 2000, (uint32_t)i * 2000 + 2000, 4);
+    run_build("records: 1000000 siblings of length 2000", MANY + 1, 0);
+}
+
+/* Records of length 1: from the last one back a part takes those that start at or after its end - 1,024. */
+static void build_short(void) {
+    for (size_t i = 0; i < MANY; i++) record(i, 1, (uint32_t)i, (uint32_t)i + 1, 4);
+    run_build("records: 1000000 siblings of length 1", 1 + (MANY + 1023) / 1024, (uint64_t)MANY * 4);
+}
+
+int main(void) {
+    work = words32(work_len);
+    cells = words32((size_t)ROOM * 7);
+    out = words32((size_t)ROOM * 7);
+    lines = words32((size_t)ROOM * 4);
+    words = words32((size_t)MANY * 2);
+    run("a chain of 1000000 trees of no type", chain(3, 0), MANY + 1, 1, 0);
+    run("a chain of 1000000 trees of id 1", chain(1, 1), MANY + 1, 1, MANY);
+    run("1000000 siblings", siblings(), 1 + below(MANY), children(MANY), MANY);
+    /* The chain is divided in place until what is left of it is no larger than the share; four leaves on each side are grouped. */
+    uint64_t share = (3 * (uint64_t)(MANY + 8) + 15) / 16;
+    run("nine children, the fifth a chain of 1000000 trees of no type", nine(), 1 + 5 + share + 5, 3, 8);
+    build_chain();
+    build_siblings();
+    build_short();
+    return status;
+}
