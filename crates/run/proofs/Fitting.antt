@@ -1,6 +1,6 @@
 -- What an accepted call counts stands in the slices it was lent. Assumes nothing.
 use mathlib.Core.Path.{_≡_, refl, sym, ap, _∙_}
-use mathlib.Core.Bool.{Bool, true, false}
+use mathlib.Core.Bool.{Bool, true}
 use mathlib.Core.List.{List, [], _∷_}
 use mathlib.Core.Option.{Option, none, some}
 use Prim.Native.Nat.{ℕ, _*_, _≤_}
@@ -12,13 +12,13 @@ use Rattle.words.specs.Outcome.{Outcome, accepted, refused, unless-refused, unl
 use Rattle.words.proofs.Outcomes.{never, passed}
 use Rattle.records.specs.Check.{check}
 use Rattle.records.specs.Parse.{parse}
-use Rattle.tree.specs.Trees.{Trees, nodes}
+use Rattle.tree.specs.Trees.{nodes}
 use Rattle.tree.specs.Build.{build}
 use Rattle.tree.specs.Materialise.{materialise}
 use Rattle.tree.specs.Cells.{cell-width}
 use Rattle.tree.specs.Calls.{written, room, build-call}
 use Rattle.rules.specs.Lowest.{bad-cell}
-use Rattle.rules.specs.Calls.{items, unless-bad, result-room, handed-in, materialise-call}
+use Rattle.rules.specs.Calls.{unless-bad, result-room, handed-in, materialise-call}
 
 outcome-settled : (o : Outcome) (after before : List (List ℕ)) → (settled o after before) .outcome ≡ o
 outcome-settled (accepted counts) after before = refl

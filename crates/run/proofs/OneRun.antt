@@ -1,5 +1,5 @@
 -- A run that is lent what 11 to 14 ask: none of its calls is refused, and its lines are the ordinary reading. Assumes nothing.
-use mathlib.Core.Path.{_≡_, refl, sym, ap, _∙_}
+use mathlib.Core.Path.{_≡_, refl, ap, _∙_}
 use mathlib.Core.Bool.{Bool, true, false}
 use mathlib.Core.List.{List, [], _∷_, _++_}
 use Prim.Native.Nat.{ℕ, _+_, _*_, _/_, _≤_}
@@ -23,7 +23,7 @@ use Rattle.rules.specs.Calls.{line-width, items}
 use Rattle.rules.proofs.RunCalls.{run-materialised, run-listed}
 use Rattle.run.specs.Running.{Steps, none-left, followed, count-at, output-at, list-steps, read-call, run-call}
 use Rattle.run.specs.Lent.{Lent}
-use Rattle.run.proofs.Stepping.{result, steps}
+use Rattle.run.proofs.Stepping.{steps}
 
 -- four words a line
 whole-line : (F d i s e : ℕ) → (k : ℕ) × (length (line F d i s e) ≡ 4 * k)

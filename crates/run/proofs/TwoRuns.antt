@@ -5,7 +5,7 @@ use mathlib.Core.Path.{_≡_, sym, ap, _∙_}
 use mathlib.Core.Logic.{_↔_}
 use Prim.Native.Nat.{ℕ, _≤_}
 use Rattle.words.specs.Outcome.{number-of}
-use Rattle.tree.specs.Run.{Run, built, listed, read}
+use Rattle.tree.specs.Run.{built, read}
 use Rattle.tree.proofs.TwoRuns as tree
 use Rattle.run.specs.Running.{Steps, cells-of, words-of, lines-of}
 use Rattle.run.specs.Lent.{Lent-run, ran}

@@ -3,8 +3,8 @@
 use mathlib.Core.List.{List, [], _∷_, _++_}
 use mathlib.Core.Option.{Option}
 use Prim.Native.Nat.{ℕ, suc, _*_}
-use lib.ListN.{length, getD, take}
-use Rattle.words.specs.Outcome.{Outcome, accepted, refused, counts-of, Result}
+use lib.ListN.{getD, take}
+use Rattle.words.specs.Outcome.{Outcome, accepted, refused, counts-of}
 use Rattle.tree.specs.Cells.{cell-width}
 use Rattle.tree.specs.Calls.{build-call}
 use Rattle.rules.specs.Calls.{line-width, materialise-call, list-call}

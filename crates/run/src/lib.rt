@@ -80,7 +80,8 @@ pub fn run(
     ) {
         build::Built::Refused(number, place) => Ran::Refused(number, place, 0),
         build::Built::Cells(count, packed) => {
-            let built = &cells[..7 * count];
+            let end = 7 * count;
+            let built = &cells[..end];
             let parts = &words[..packed];
             match read_back(types, first_repeat, start, built, parts, work, trees, lines) {
                 Read::NotMaterialised(number, place) => Ran::Refused(number, place, 1),

@@ -39,8 +39,8 @@ module _ (b : tie.After-build) where
   same-work : work₁ ≡ length (now (z₁ .args .work))
   same-work = omega (arith, b .build .kept .1 .1 .1 .1 .1 .1 .1 .0)
 
-mul-built : tie.Need-mul-built
-mul-built c = omega (arith, (fits-at (c .before .before .before .before .before .before .before .before .before) (c .before .count .given .0 .0) (c .before .count .given .0 .1 .0) (c .before .count .given .1)) .0, z₁ (c .before .before .before .before .before .before .before .before .before) .good .1 .1 .1 .1 .1 .1 .1 .1 .0 .0, c .before .before .before .before .before .before .before .before .before .build .kept .1 .1 .1 .1 .1 .1 .1 .1 .0)
+mul-end : tie.Need-mul-end
+mul-end c = omega (arith, (fits-at (c .before .before .before .before .before .before .before .before .before) (c .before .count .given .0 .0) (c .before .count .given .0 .1 .0) (c .before .count .given .1)) .0, z₁ (c .before .before .before .before .before .before .before .before .before) .good .1 .1 .1 .1 .1 .1 .1 .1 .0 .0, c .before .before .before .before .before .before .before .before .before .build .kept .1 .1 .1 .1 .1 .1 .1 .1 .0)
 
 slice-reshare-prefix-built : tie.Need-slice-reshare-prefix-built
 slice-reshare-prefix-built c = (fits-at (c .before .before .before .before .before .before .before .before .before) (c .before .count .given .0 .0) (c .before .count .given .0 .1 .0) (c .before .count .given .1)) .0
@@ -91,7 +91,7 @@ run-spec =
     (λ c κs. search needs)
     (λ c. search needs)
     (λ c. search needs)
-    mul-built
+    mul-end
     slice-reshare-prefix-built
     slice-aggregate-built
     slice-reshare-prefix-parts
