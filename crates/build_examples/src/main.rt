@@ -1,8 +1,8 @@
 // Runs document 01's examples of the build: each line says what was asked and what came. Behind an answer that is not the one
 // that the document gives stands WRONG. Cells are shown seven words to a line, packed records and listed lines four.
-ghost use mathlib.Core.Path.{_≡_};
-ghost use Prim.Native.Nat.{_≤_};
-ghost use lib.ListN.{length};
+mod lists;
+mod show;
+
 use balancing::Balanced;
 use build::Built;
 use build::Given;
@@ -28,103 +28,6 @@ struct Answer {
     place: usize,
     cells: usize,
     words: usize,
-}
-
-fn print(text: &[u8]) {
-    io::write_all(libc::STDOUT_FILENO, text);
-}
-
-fn print_number(number: u64) {
-    io::print_decimal(libc::STDOUT_FILENO, number);
-}
-
-fn wide(word: u32) -> u64 {
-    word as u64
-}
-
-// A number that came, and whether it is the one that the document gives.
-fn expect(came: u64, given: u64) {
-    print_number(came);
-    if came != given {
-        print(b" WRONG, not ");
-        print_number(given);
-    }
-}
-
-// Whether the word at a place is the last one of a row of so many.
-fn ends_row(i: usize, row: usize) -> bool {
-    if row == 0 {
-        return false;
-    }
-    i % row == row - 1
-}
-
-// The first words, so many to a line.
-fn print_words(words: &[u32], count: usize, row: usize) {
-    let mut i: usize = 0;
-    while i < words.len() {
-        if i == count {
-            return;
-        }
-        print(b" ");
-        print_number(wide(words[i]));
-        if ends_row(i, row) {
-            print(b"\n");
-        }
-        i += 1;
-    }
-}
-
-// The first packed words, a record to a line.
-fn print_packed(words: &[u16], count: usize) {
-    let mut i: usize = 0;
-    while i < words.len() {
-        if i == count {
-            return;
-        }
-        print(b" ");
-        print_number(words::wide64(words[i]));
-        if ends_row(i, 4) {
-            print(b"\n");
-        }
-        i += 1;
-    }
-}
-
-// How many words so many cells have, or the whole room where it is too small for them.
-fn cell_words(count: usize, room: usize) -> usize
-    ensures { λ r. ⌜ r ≤ room ⌝ }
-{
-    if room / 7 < count {
-        return room;
-    }
-    count * 7
-}
-
-// So many words, or the whole room where it has fewer.
-fn within(count: usize, room: usize) -> usize
-    ensures { λ r. ⌜ r ≤ room ⌝ }
-{
-    if room < count {
-        return room;
-    }
-    count
-}
-
-// How many words so many lines have, or the whole room.
-fn line_words(count: usize, room: usize) -> usize {
-    if room / 4 < count {
-        return room;
-    }
-    count * 4
-}
-
-// The word at a place; 0 behind the last one.
-fn word_at(words: &[u32], at: usize) -> u32 {
-    if at < words.len() {
-        return words[at];
-    }
-    0
 }
 
 fn answer_of(built: Built) -> Answer {
@@ -168,24 +71,24 @@ fn build_list(
 }
 
 fn expect_refusal(answer: Answer, number: u32, place: usize) {
-    print(b": refused ");
-    expect(answer.number as u64, number as u64);
-    print(b" at ");
-    expect(answer.place as u64, place as u64);
-    print(b"\n");
+    show::print(b": refused ");
+    show::expect(answer.number as u64, number as u64);
+    show::print(b" at ");
+    show::expect(answer.place as u64, place as u64);
+    show::print(b"\n");
 }
 
 fn expect_counts(answer: Answer, cells: usize, words: usize) {
     if answer.number != 0 {
-        print(b": WRONG");
+        show::print(b": WRONG");
         expect_refusal(answer, 0, 0);
         return;
     }
-    print(b": cells ");
-    expect(answer.cells as u64, cells as u64);
-    print(b", packed words ");
-    expect(answer.words as u64, words as u64);
-    print(b"\n");
+    show::print(b": cells ");
+    show::expect(answer.cells as u64, cells as u64);
+    show::print(b", packed words ");
+    show::expect(answer.words as u64, words as u64);
+    show::print(b"\n");
 }
 
 // The same for the first words of a list.
@@ -197,7 +100,7 @@ fn build_front(
     cells: &mut [u32],
     words: &mut [u16],
 ) -> Answer {
-    let count = within(size, records.len());
+    let count = show::within(size, records.len());
     build_list(numbers, &records[..count], work, cells, words)
 }
 
@@ -229,7 +132,7 @@ fn list_tree(
     let answer = materialize::materialize(numbers.types, cells, words, work, out);
     match answer {
         Materialized::Cells(count) => {
-            let size = cell_words(count, out.len());
+            let size = show::cell_words(count, out.len());
             list_cells(numbers, &out[..size], work, lines)
         }
         Materialized::Refused(_, _) => 0,
@@ -246,15 +149,9 @@ fn list_built(
     out: &mut [u32],
     lines: &mut [u32],
 ) -> usize {
-    let size = cell_words(answer.cells, cells.len());
-    let packed = within(answer.words, words.len());
+    let size = show::cell_words(answer.cells, cells.len());
+    let packed = show::within(answer.words, words.len());
     list_tree(numbers, &cells[..size], &words[..packed], work, out, lines)
-}
-
-fn expect_lines(came: usize, given: usize) {
-    print(b"lines listed ");
-    expect(came as u64, given as u64);
-    print(b"\n");
 }
 
 // A small list with the cells and packed words that it makes, and its listing.
@@ -271,14 +168,14 @@ fn show_list(
     let mut words = [PACKED_BEFORE; 20];
     let mut out = [BEFORE; 42];
     let mut lines = [BEFORE; 20];
-    print(what);
+    show::print(what);
     let answer = build_list(numbers, records, work, &mut cells, &mut words);
     expect_counts(answer, count, packed);
-    print_words(&cells, cell_words(answer.cells, 42), 7);
-    print_packed(&words, answer.words);
+    show::print_words(&cells, show::cell_words(answer.cells, 42), 7);
+    show::print_packed(&words, answer.words);
     let came = list_built(numbers, answer, &cells, &words, work, &mut out, &mut lines);
-    expect_lines(came, listed);
-    print_words(&lines, line_words(came, 20), 4);
+    show::expect_lines(came, listed);
+    show::print_words(&lines, show::line_words(came, 20), 4);
 }
 
 // T 4, F 4 and S 0, with a length bound.
@@ -342,7 +239,7 @@ fn short_work() {
     let mut work = [BEFORE; 383];
     let mut cells = [BEFORE; 14];
     let mut words = [PACKED_BEFORE; 12];
-    print(b"P, b 1024, a work slice of 383 words");
+    show::print(b"P, b 1024, a work slice of 383 words");
     show_short(&mut work, &mut cells, &mut words, 11);
 }
 
@@ -350,7 +247,7 @@ fn short_cells() {
     let mut work = [BEFORE; 384];
     let mut cells = [BEFORE; 13];
     let mut words = [PACKED_BEFORE; 12];
-    print(b"P, b 1024, room for 13 words of cells");
+    show::print(b"P, b 1024, room for 13 words of cells");
     show_short(&mut work, &mut cells, &mut words, 12);
 }
 
@@ -358,7 +255,7 @@ fn short_words() {
     let mut work = [BEFORE; 384];
     let mut cells = [BEFORE; 14];
     let mut words = [PACKED_BEFORE; 11];
-    print(b"P, b 1024, room for 11 packed words");
+    show::print(b"P, b 1024, room for 11 packed words");
     show_short(&mut work, &mut cells, &mut words, 13);
 }
 
@@ -367,7 +264,7 @@ fn early(work: &mut [u32]) {
     let one: [u32; 4] = [1, 5, 7, 4];
     let mut cells = [BEFORE; 14];
     let mut words = [PACKED_BEFORE; 12];
-    print(b"Record 1 5 7 4, S 6");
+    show::print(b"Record 1 5 7 4, S 6");
     let answer = build_list(starting(6), &one, work, &mut cells, &mut words);
     expect_refusal(answer, 10, 0);
 }
@@ -378,44 +275,9 @@ fn enough() {
     let mut work = [BEFORE; 384];
     let mut cells = [BEFORE; 14];
     let mut words = [PACKED_BEFORE; 12];
-    print(b"P, b 1024, 384 words of work, 14 of cells, 12 packed");
+    show::print(b"P, b 1024, 384 words of work, 14 of cells, 12 packed");
     let answer = build_list(plain(1024), &p, &mut work, &mut cells, &mut words);
     expect_counts(answer, 2, 12);
-}
-
-// Word i of a list of empty siblings: each record is 1, 0, 0, 4.
-fn sibling_word(i: usize) -> u32 {
-    match i % 4 {
-        0 => 1,
-        3 => 4,
-        _ => 0,
-    }
-}
-
-// Word i of a chain of records from 0 to an end, each in the next one.
-fn chain_word(i: usize, end: u32) -> u32 {
-    match i % 4 {
-        0 => 1,
-        1 => 0,
-        2 => end,
-        _ => (i % 65536) as u32 + 1,
-    }
-}
-
-fn put_siblings(records: &mut [u32]) {
-    let mut i: usize = 0;
-    while i < records.len() {
-        records[i] = sibling_word(i);
-        i += 1;
-    }
-}
-
-fn put_chain(records: &mut [u32], end: u32) {
-    let mut i: usize = 0;
-    while i < records.len() {
-        records[i] = chain_word(i, end);
-        i += 1;
-    }
 }
 
 // Empty siblings: the cells and packed words, and the kinds of the second and the third cell.
@@ -428,64 +290,30 @@ fn show_siblings(
     words: &mut [u16],
 ) {
     let mut cells = [0u32; 21];
-    print_number((size / 4) as u64);
-    print(b" empty siblings, b 1024");
+    show::print_number((size / 4) as u64);
+    show::print(b" empty siblings, b 1024");
     let answer = build_front(plain(1024), records, size, work, &mut cells, words);
     expect_counts(answer, count, 65532);
-    print(b"kinds ");
-    expect(wide(word_at(&cells, 7)), 2);
-    print(b" ");
-    expect(wide(word_at(&cells, 14)), wide(third));
-    print(b"\n");
-}
-
-// Room for the records of the siblings and of the chains. It comes from a function, so that no proof holds its every word.
-fn record_room() -> [u32; 65536]
-    ensures { λ r. ⌜ 65536 ≡ length r ⌝ }
-{
-    [0; 65536]
-}
-
-fn packed_room() -> [u16; 65532]
-    ensures { λ r. ⌜ 65532 ≡ length r ⌝ }
-{
-    [0; 65532]
-}
-
-// The work slice of 16,384 records.
-fn work_room() -> [u32; 1572960]
-    ensures { λ r. ⌜ 1572960 ≡ length r ⌝ }
-{
-    [0; 1572960]
-}
-
-// Room for 2,505 cells.
-fn cell_room() -> [u32; 17535]
-    ensures { λ r. ⌜ 17535 ≡ length r ⌝ }
-{
-    [0; 17535]
-}
-
-// Room for 2,504 lines.
-fn line_room() -> [u32; 10016]
-    ensures { λ r. ⌜ 10016 ≡ length r ⌝ }
-{
-    [0; 10016]
+    show::print(b"kinds ");
+    show::expect(show::wide(show::word_at(&cells, 7)), 2);
+    show::print(b" ");
+    show::expect(show::wide(show::word_at(&cells, 14)), show::wide(third));
+    show::print(b"\n");
 }
 
 fn siblings(work: &mut [u32]) {
-    let mut records = record_room();
-    let mut words = packed_room();
-    put_siblings(&mut records);
+    let mut records = lists::record_room();
+    let mut words = lists::packed_room();
+    lists::put_siblings(&mut records);
     show_siblings(&records, 65532, 2, 0, work, &mut words);
     show_siblings(&records, 65536, 3, 1, work, &mut words);
 }
 
 // The kind of the last of 2,504 cells.
 fn expect_last(cells: &[u32], kind: u32) {
-    print(b"the last cell's kind ");
-    expect(wide(word_at(cells, 17521)), wide(kind));
-    print(b", ");
+    show::print(b"the last cell's kind ");
+    show::expect(show::wide(show::word_at(cells, 17521)), show::wide(kind));
+    show::print(b", ");
 }
 
 // A chain: the cells and packed words, the kind of the last cell, and the lines that are listed.
@@ -504,21 +332,21 @@ fn show_chain(
     expect_counts(answer, 2504, packed);
     expect_last(cells, kind);
     let came = list_built(plain(1024), answer, cells, &words, work, out, lines);
-    expect_lines(came, 2503);
+    show::expect_lines(came, 2503);
 }
 
 // A chain of so many words of records to an end.
 fn chain(size: usize, end: u32, packed: usize, kind: u32, work: &mut [u32]) {
-    let mut records = line_room();
-    let mut cells = cell_room();
-    let mut out = cell_room();
-    let mut lines = line_room();
-    print(b"A chain of ");
-    print_number((size / 4) as u64);
-    print(b" records from 0 to ");
-    print_number(wide(end));
-    print(b", b 1024");
-    put_chain(&mut records, end);
+    let mut records = lists::line_room();
+    let mut cells = lists::cell_room();
+    let mut out = lists::cell_room();
+    let mut lines = lists::line_room();
+    show::print(b"A chain of ");
+    show::print_number((size / 4) as u64);
+    show::print(b" records from 0 to ");
+    show::print_number(show::wide(end));
+    show::print(b", b 1024");
+    lists::put_chain(&mut records, end);
     show_chain(
         &records,
         size,
@@ -537,66 +365,19 @@ fn chains(work: &mut [u32]) {
     chain(10012, 70000, 0, 1, work);
 }
 
-// The number in the next word of a chain of leaves: the cell behind cell i, or 0.
-fn next_of(i: usize, size: usize) -> u32 {
-    if i / 7 + 1 < size / 7 {
-        return (i % 65536) as u32 / 7 + 2;
-    }
-    0
-}
-
-// Word i of a top of id 0, whose cells have so many words in all: the count of its children is that of the other cells.
-fn top_word(i: usize, size: usize) -> u32 {
-    match i {
-        0 => 1,
-        3 => (size / 7 % 65536) as u32,
-        4 => 2,
-        5 => ((size / 7 + 65535) % 65536) as u32,
-        _ => 0,
-    }
-}
-
-// Word i of the leaves below it, each of id 1 and length 1.
-fn leaf_word(i: usize, size: usize) -> u32 {
-    match i % 7 {
-        0 => 1,
-        1 => 1,
-        2 => (i % 65536) as u32 / 7,
-        3 => 1,
-        6 => next_of(i, size),
-        _ => 0,
-    }
-}
-
-fn cell_word(i: usize, size: usize) -> u32 {
-    if i < 7 {
-        return top_word(i, size);
-    }
-    leaf_word(i, size)
-}
-
-// A top and the leaves below it, as many as there is room for.
-fn put_leaves(cells: &mut [u32]) {
-    let mut i: usize = 0;
-    while i < cells.len() {
-        cells[i] = cell_word(i, cells.len());
-        i += 1;
-    }
-}
-
 // What balancing answered, and what stands in the output: the children of the top.
 fn expect_balance(answer: Balanced, out: &[u32], children: u32) {
     match answer {
         Balanced::Cells(count, _) => {
-            print(b": children ");
-            expect(wide(word_at(out, 5)), wide(children));
-            print(b"\n");
-            print_words(out, cell_words(count, out.len()), 7);
+            show::print(b": children ");
+            show::expect(show::wide(show::word_at(out, 5)), show::wide(children));
+            show::print(b"\n");
+            show::print_words(out, show::cell_words(count, out.len()), 7);
         }
         Balanced::Refused(number, _) => {
-            print(b": WRONG, refused ");
-            print_number(wide(number));
-            print(b"\n");
+            show::print(b": WRONG, refused ");
+            show::print_number(show::wide(number));
+            show::print(b"\n");
         }
     }
 }
@@ -606,9 +387,9 @@ fn show_balance(cells: &mut [u32], children: u32, work: &mut [u32]) {
     let none: [u16; 0] = [];
     let mut packed = [0u16; 1];
     let mut out = [BEFORE; 140];
-    put_leaves(cells);
-    print_number(wide(word_at(cells, 5)));
-    print(b" leaf trees balanced");
+    lists::put_leaves(cells);
+    show::print_number(show::wide(show::word_at(cells, 5)));
+    show::print(b" leaf trees balanced");
     let answer = balancing::balance(4, cells, &none, work, &mut out, &mut packed);
     expect_balance(answer, &out, children);
 }
@@ -621,7 +402,7 @@ fn balances(work: &mut [u32]) {
 }
 
 fn main() {
-    let mut work = work_room();
+    let mut work = lists::work_room();
     p_lists(&mut work);
     other_lists(&mut work);
     early(&mut work);

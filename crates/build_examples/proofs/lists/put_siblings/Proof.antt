@@ -1,11 +1,11 @@
--- `build_examples::put_siblings` is safe and ends: each turn sets the next word. Assumes nothing.
+-- `build_examples::lists::put_siblings` is safe and ends: each turn sets the next word. Assumes nothing.
 use mathlib.Core.Path.{_≡_}
 use Prim.Native.Nat.{_-_, _≤_}
 use native.Mathlib.Omega.{arith}
 use lib.ListN.{length, length-set}
 use borrow.Author.Needs.{needs}
-use Rattle.build_examples.proofs.put_siblings.Statement.{statement}
-use Rattle.build_examples.proofs.put_siblings.Tie as tie
+use Rattle.build_examples.proofs.lists.put_siblings.Statement.{statement}
+use Rattle.build_examples.proofs.lists.put_siblings.Tie as tie
 
 abbrev Inv-loop : tie.InvT-loop
 Inv-loop records₀ i₀ records i = (i ≤ length records) × (length records ≡ length records₀)

@@ -1,17 +1,17 @@
--- `build_examples::put_leaves` is safe and ends: each turn sets the next word. Assumes nothing.
+-- `build_examples::lists::put_chain` is safe and ends: each turn sets the next word. Assumes nothing.
 use mathlib.Core.Path.{_≡_}
 use Prim.Native.Nat.{_-_, _≤_}
 use native.Mathlib.Omega.{arith}
 use lib.ListN.{length, length-set}
 use borrow.Author.Needs.{needs}
-use Rattle.build_examples.proofs.put_leaves.Statement.{statement}
-use Rattle.build_examples.proofs.put_leaves.Tie as tie
+use Rattle.build_examples.proofs.lists.put_chain.Statement.{statement}
+use Rattle.build_examples.proofs.lists.put_chain.Tie as tie
 
 abbrev Inv-loop : tie.InvT-loop
-Inv-loop cells₀ i₀ cells i = (i ≤ length cells) × (length cells ≡ length cells₀)
+Inv-loop records₀ end i₀ records i = (i ≤ length records) × (length records ≡ length records₀)
 
 abbrev μ-loop : tie.MeasureT-loop
-μ-loop cells₀ i₀ cells i = length cells - i
+μ-loop records₀ end i₀ records i = length records - i
 
 loop-less : tie.Need-loop-less Inv-loop μ-loop
 loop-less c = simp length-set (omega arith)
@@ -19,8 +19,8 @@ loop-less c = simp length-set (omega arith)
 loop-again : tie.Need-loop-again Inv-loop μ-loop
 loop-again c = simp length-set (omega arith)
 
-pub put-leaves-spec : {M : Type 1} → statement M
-put-leaves-spec =
+pub put-chain-spec : {M : Type 1} → statement M
+put-chain-spec =
     tie.close
     (tie.spec
     Inv-loop

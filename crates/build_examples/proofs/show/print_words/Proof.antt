@@ -1,9 +1,9 @@
--- `build_examples::print_words` is safe and ends: each turn takes the next word. Assumes nothing.
+-- `build_examples::show::print_words` is safe and ends: each turn takes the next word. Assumes nothing.
 use Prim.Native.Nat.{_-_, _≤_}
 use lib.ListN.{length}
 use borrow.Author.Needs.{needs}
-use Rattle.build_examples.proofs.print_words.Statement.{statement}
-use Rattle.build_examples.proofs.print_words.Tie as tie
+use Rattle.build_examples.proofs.show.print_words.Statement.{statement}
+use Rattle.build_examples.proofs.show.print_words.Tie as tie
 
 abbrev Inv-loop : tie.InvT-loop
 Inv-loop words count row i₀ t5 t6 i = i ≤ length words

@@ -1,9 +1,9 @@
--- `build_examples::work_room` meets its contract: the length of a repeat, by its law, not by counting. Assumes nothing.
+-- `build_examples::lists::work_room` meets its contract: the length of a repeat, by its law, not by counting. Assumes nothing.
 use mathlib.Core.Path.{_≡_, sym}
 use Prim.Native.Nat.{ℕ}
 use lib.ListN.{length, replicate, length-replicate}
-use Rattle.build_examples.proofs.work_room.Statement.{statement}
-use Rattle.build_examples.proofs.work_room.Tie as tie
+use Rattle.build_examples.proofs.lists.work_room.Statement.{statement}
+use Rattle.build_examples.proofs.lists.work_room.Tie as tie
 
 counted : (n : ℕ) → n ≡ length {A = ℕ} (replicate n 0)
 counted n = sym (length-replicate {A = ℕ} n 0)
