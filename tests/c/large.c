@@ -12,10 +12,6 @@ uint32_t hulwyth_balance(uint32_t types, const uint32_t *cells, size_t cells_len
                          uint32_t *work, size_t work_len, uint32_t *out, size_t out_len, uint16_t *packed, size_t packed_len,
                          uint64_t *info, size_t info_len);
 
-uint32_t hulwyth_build(uint32_t types, uint32_t first_repeat, uint32_t bound, uint32_t start, uint32_t top, uint32_t given,
-                       uint32_t length, const uint32_t *records, size_t records_len, uint32_t *work, size_t work_len,
-                       uint32_t *cells, size_t cells_len, uint16_t *words, size_t words_len, uint32_t *info, size_t info_len);
-
 enum { MANY = 1000000, ROOM = 2 * MANY };
 
 static int status = 0;
