@@ -1,2 +1,2 @@
-pub mod InWords
+pub mod Told
 pub mod Given

@@ -2,4 +2,3 @@ pub mod Stores
 pub mod Runs
 pub mod Firsts
 pub mod Outcomes
-pub mod Telling

@@ -2,4 +2,3 @@ pub mod Outcome
 pub mod Words
 pub mod First
 pub mod Answer
-pub mod Told

@@ -19,7 +19,7 @@ abbrev pub place-of : Outcome → ℕ
 place-of (accepted counts) = 0
 place-of (refused number place) = place
 
--- "counts are 0" where a call is refused: the first and the second one
+-- a refused call has none: "counts are 0" wherever they are told
 abbrev pub counts-of : Outcome → List ℕ
 counts-of (accepted counts) = counts
 counts-of (refused number place) = []

@@ -1,18 +1,22 @@
--- `gateway::hulwyth_check` meets its contract, by cases of the check's answer. Assumes nothing.
+-- `gateway::hulwyth_check` meets its contract: what is told is what the call answers. Assumes nothing.
 use mathlib.Core.Path.{sym, ap, _∙_}
 use mathlib.Core.List.{[], _∷_}
-use borrow.Author.Needs.{needs}
 use Rattle.words.specs.Outcome.{accepted, refused}
 use Rattle.records.specs.Answer.{checked-outcome}
-use Rattle.words.proofs.Telling as T
+use Rattle.gateway.proofs.Telling.{told-as}
+use borrow.Author.Needs.{needs}
 use Rattle.gateway.proofs.hulwyth_check.Statement.{statement}
 use Rattle.gateway.proofs.hulwyth_check.Tie as tie
 
 returns : tie.Need-returns
-returns c = T.told-as _ (accepted (c .before .before .before .before .before .answer .given .0 .0 ∷ [])) [] _ _ (ap checked-outcome (sym (c .before .before .before .before .before .answer .given .1)) ∙ c .before .before .before .before .before .before .before .before .before .check .ensures) (c .before .before .tell .ensures)
+returns c =
+    let v = c .before .before .before .before .before .before .answer .given in
+    told-as 2 _ (accepted (v .0 .0 ∷ [])) _ _ (ap checked-outcome (sym (v .1)) ∙ c .before .before .before .before .before .before .before .before .before .before .check .ensures) (c .before .before .tell .ensures)
 
 returns-2 : tie.Need-returns-2
-returns-2 c = T.told-as _ (refused (c .before .before .before .before .before .answer2 .given .0 .0) (c .before .before .before .before .before .answer2 .given .0 .1 .0)) [] _ _ (ap checked-outcome (sym (c .before .before .before .before .before .answer2 .given .1)) ∙ c .before .before .before .before .before .before .before .before .before .check .ensures) (c .before .before .tell2 .ensures)
+returns-2 c =
+    let v = c .before .before .before .before .before .before .answer2 .given in
+    told-as 2 _ (refused (v .0 .0) (v .0 .1 .0)) _ _ (ap checked-outcome (sym (v .1)) ∙ c .before .before .before .before .before .before .before .before .before .before .check .ensures) (c .before .before .tell2 .ensures)
 
 pub hulwyth-check-spec : {M : Type 1} → statement M
 hulwyth-check-spec =
@@ -20,10 +24,14 @@ hulwyth-check-spec =
     (tie.spec
     (λ c κs. search needs)
     (λ c. search needs)
+    (λ c. search needs)
+    (λ c. search needs)
     (λ c κs. search needs)
     (λ c. search needs)
     (λ c. search needs)
     returns
+    (λ c. search needs)
+    (λ c. search needs)
     (λ c. search needs)
     (λ c κs. search needs)
     (λ c. search needs)
