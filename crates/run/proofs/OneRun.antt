@@ -21,7 +21,7 @@ use Rattle.tree.proofs.RunLaws.{run-builds, built-cells, built-words, materiali
 use Rattle.tree.proofs.TwoRuns as tree
 use Rattle.rules.specs.Calls.{line-width, items}
 use Rattle.rules.proofs.RunCalls.{run-materialised, run-listed}
-use Rattle.run.specs.Running.{Steps, none-left, followed, count-at, output-at, list-steps, read-call, run-call}
+use Rattle.run.specs.Running.{Steps, Works, none-left, followed, count-at, output-at, list-steps, read-call, run-call}
 use Rattle.run.specs.Lent.{Lent}
 use Rattle.run.proofs.Stepping.{steps}
 
@@ -81,60 +81,63 @@ module _ (F S : ℕ) (fits : S ≤ 4294967295) (r : Run F S) where
   pub counted-lines : (out : List ℕ) → take (line-width * (length (read F S r) / line-width)) (front (read F S r) out) ≡ read F S r
   counted-lines out = take-at (read F S r) (drop (length (read F S r)) out) (line-width * (length (read F S r) / line-width)) whole-read
 
-  -- For n records these are enough: 96 (3 n + 1) + 96 words of work, 2 n + 1 cells for the build and for materialise, 4 n packed words, n lines.
-  pub enough-lent : (work : ℕ) (cells words trees lines : List ℕ)
-      → 96 * (3 * (length (r .records) / 4) + 1) + 96 ≤ work
+  -- For n records these are enough: 96 n + 96 words of work for the build, 96 (3 n + 1) + 96 for materialise and 96 (2 n + 1) + 96 for
+  -- listing, 2 n + 1 cells for the build and for materialise, 4 n packed words, n lines.
+  pub enough-lent : (works : Works) (cells words trees lines : List ℕ)
+      → 96 * (length (r .records) / 4) + 96 ≤ works .build
+      → 96 * (3 * (length (r .records) / 4) + 1) + 96 ≤ works .materialise
+      → 96 * (2 * (length (r .records) / 4) + 1) + 96 ≤ works .list
       → cell-width * (2 * (length (r .records) / 4) + 1) ≤ length cells → 4 * (length (r .records) / 4) ≤ length words
       → cell-width * (2 * (length (r .records) / 4) + 1) ≤ length trees → line-width * (length (r .records) / 4) ≤ length lines
-      → Lent F S r work cells words trees lines
+      → Lent F S r works cells words trees lines
   unfolding items
-  enough-lent work cells words trees lines a b c d e =
+  enough-lent works cells words trees lines u v w b c d e =
       let x = built-cells F S fits r in
       let y = built-words F S fits r in
       let z = materialised-cells F S fits r in
       record {
-        build-work = omega arith;
-        materialise-work = omega (arith, x, y, a);
-        list-work = omega (arith, z, a);
+        build-work = u;
+        materialise-work = omega (arith, x, y, v);
+        list-work = omega (arith, z, w);
         cells-space = omega (arith, x, b);
         words-space = omega (arith, y, c);
         trees-space = omega (arith, z, d);
         lines-space = omega (arith, ap length (tree.one-run F S fits r), listed-lines F S fits r, e);
       }
 
-  module _ (work : ℕ) (cells words trees lines : List ℕ) (lent : Lent F S r work cells words trees lines) where
+  module _ (works : Works) (cells words trees lines : List ℕ) (lent : Lent F S r works cells words trees lines) where
     abbrev trees-counts : List ℕ
     trees-counts = length ms / cell-width ∷ 0 ∷ []
 
     -- materialise and listing on what the build wrote
-    reads-back : read-call (r .types) F S cs ws work trees lines
+    reads-back : read-call (r .types) F S cs ws works trees lines
         ≡ steps (accepted (length ms / cell-width ∷ 0 ∷ length (listed F S r) / line-width ∷ [])) 2 (front ms trees ∷ front (listed F S r) lines ∷ [])
     unfolding read-call list-steps
     reads-back =
-        ap (λ (x : Result). followed (x .outcome) (x .outputs) (list-steps (r .types) F S (take (cell-width * count-at (x .outcome) 0) (output-at (x .outputs) 0)) work lines) (lines ∷ []))
-        (run-materialised F S fits r work trees (lent .materialise-work) (lent .trees-space))
-        ∙ (ap (λ (m : List ℕ). followed (accepted trees-counts) (front ms trees ∷ []) (list-steps (r .types) F S m work lines) (lines ∷ [])) (counted-trees trees)
+        ap (λ (x : Result). followed (x .outcome) (x .outputs) (list-steps (r .types) F S (take (cell-width * count-at (x .outcome) 0) (output-at (x .outputs) 0)) (works .list) lines) (lines ∷ []))
+        (run-materialised F S fits r (works .materialise) trees (lent .materialise-work) (lent .trees-space))
+        ∙ (ap (λ (m : List ℕ). followed (accepted trees-counts) (front ms trees ∷ []) (list-steps (r .types) F S m (works .list) lines) (lines ∷ [])) (counted-trees trees)
         ∙ ap (λ (x : Result). followed (accepted trees-counts) (front ms trees ∷ []) (followed (x .outcome) (x .outputs) none-left []) (lines ∷ []))
-        (run-listed F S fits r work lines (lent .list-work) (omega (arith, ap length (tree.one-run F S fits r), lent .lines-space))))
+        (run-listed F S fits r (works .list) lines (lent .list-work) (omega (arith, ap length (tree.one-run F S fits r), lent .lines-space))))
 
     abbrev built-counts : List ℕ
     built-counts = length cs / cell-width ∷ length ws ∷ []
 
-    run-lists : run-call (r .types) F (r .bound) S (r .top) (r .given) work (r .records) cells words trees lines
+    run-lists : run-call (r .types) F (r .bound) S (r .top) (r .given) works (r .records) cells words trees lines
         ≡ steps (accepted (length cs / cell-width ∷ length ws ∷ length ms / cell-width ∷ 0 ∷ length (listed F S r) / line-width ∷ [])) 3
         (front cs cells ∷ front ws words ∷ front ms trees ∷ front (listed F S r) lines ∷ [])
     unfolding run-call
     run-lists =
         ap (λ (x : Result). followed (x .outcome) (x .outputs) (read-call (r .types) F S (take (cell-width * count-at (x .outcome) 0) (output-at (x .outputs) 0))
-        (take (count-at (x .outcome) 1) (output-at (x .outputs) 1)) work trees lines) (trees ∷ lines ∷ []))
-        (run-builds F S fits r work cells words (lent .build-work) (lent .cells-space) (lent .words-space))
+        (take (count-at (x .outcome) 1) (output-at (x .outputs) 1)) works trees lines) (trees ∷ lines ∷ []))
+        (run-builds F S fits r (works .build) cells words (lent .build-work) (lent .cells-space) (lent .words-space))
         ∙ (ap (λ (c : List ℕ). followed (accepted built-counts) (front cs cells ∷ front ws words ∷ [])
-        (read-call (r .types) F S c (take (length ws) (front ws words)) work trees lines) (trees ∷ lines ∷ [])) (counted-cells cells)
-        ∙ (ap (λ (w : List ℕ). followed (accepted built-counts) (front cs cells ∷ front ws words ∷ []) (read-call (r .types) F S cs w work trees lines) (trees ∷ lines ∷ [])) (counted-words words)
+        (read-call (r .types) F S c (take (length ws) (front ws words)) works trees lines) (trees ∷ lines ∷ [])) (counted-cells cells)
+        ∙ (ap (λ (w : List ℕ). followed (accepted built-counts) (front cs cells ∷ front ws words ∷ []) (read-call (r .types) F S cs w works trees lines) (trees ∷ lines ∷ [])) (counted-words words)
         ∙ ap (λ (s : Steps). followed (accepted built-counts) (front cs cells ∷ front ws words ∷ []) s (trees ∷ lines ∷ [])) reads-back))
 
     -- The run is accepted, and what it writes: the cells and words of the build, the cells of materialise, and the list's ordinary reading.
-    pub run-reads : run-call (r .types) F (r .bound) S (r .top) (r .given) work (r .records) cells words trees lines
+    pub run-reads : run-call (r .types) F (r .bound) S (r .top) (r .given) works (r .records) cells words trees lines
         ≡ steps (accepted (length cs / cell-width ∷ length ws ∷ length ms / cell-width ∷ 0 ∷ length (read F S r) / line-width ∷ [])) 3
         (front cs cells ∷ front ws words ∷ front ms trees ∷ front (read F S r) lines ∷ [])
     run-reads =

@@ -1,4 +1,5 @@
--- Demand 3, from end to end, over the definition that the contract of `run` cites. Two runs, each with its own type count, length bound,
+-- Demand 3, from end to end, over the definitions that the contracts of the calls cite: three calls in turn, each with a work slice of its
+-- own. `run`, which lends one to all three, is the case where their lengths are equal. Two runs, each with its own type count, length bound,
 -- top id, given length, slices and accepted list nested at most 2,503 levels, with the same first repeat id F and build start S, each
 -- lent what 11 to 14 ask. Assumes nothing.
 use mathlib.Core.Path.{_≡_, sym, ap, _∙_}
@@ -15,16 +16,16 @@ module _ (F S : ℕ) (fits : S ≤ 4294967295) where
   module _ (a : Lent-run F S) where
     -- no call is refused
     not-refused : number-of ((ran F S a) .outcome) ≡ 0
-    not-refused = ap (λ (s : Steps). number-of (s .outcome)) (run-reads F S fits (a .run) (a .work) (a .cells) (a .words) (a .trees) (a .lines) (a .lent))
+    not-refused = ap (λ (s : Steps). number-of (s .outcome)) (run-reads F S fits (a .run) (a .works) (a .cells) (a .words) (a .trees) (a .lines) (a .lent))
 
     lines-read : lines-of (ran F S a) ≡ read F S (a .run)
-    lines-read = ap lines-of (run-reads F S fits (a .run) (a .work) (a .cells) (a .words) (a .trees) (a .lines) (a .lent)) ∙ counted-lines F S fits (a .run) (a .lines)
+    lines-read = ap lines-of (run-reads F S fits (a .run) (a .works) (a .cells) (a .words) (a .trees) (a .lines) (a .lent)) ∙ counted-lines F S fits (a .run) (a .lines)
 
     cells-built : cells-of (ran F S a) ≡ (built F S (a .run)) .cells
-    cells-built = ap cells-of (run-reads F S fits (a .run) (a .work) (a .cells) (a .words) (a .trees) (a .lines) (a .lent)) ∙ counted-cells F S fits (a .run) (a .cells)
+    cells-built = ap cells-of (run-reads F S fits (a .run) (a .works) (a .cells) (a .words) (a .trees) (a .lines) (a .lent)) ∙ counted-cells F S fits (a .run) (a .cells)
 
     words-built : words-of (ran F S a) ≡ (built F S (a .run)) .words
-    words-built = ap words-of (run-reads F S fits (a .run) (a .work) (a .cells) (a .words) (a .trees) (a .lines) (a .lent)) ∙ counted-words F S fits (a .run) (a .words)
+    words-built = ap words-of (run-reads F S fits (a .run) (a .works) (a .cells) (a .words) (a .trees) (a .lines) (a .lent)) ∙ counted-words F S fits (a .run) (a .words)
 
   -- Neither run is refused; the lines of each are the ordinary reading of its own list; the lines of the two are the same exactly when
   -- the readings are; and lists that differ in that reading never end in the same cells and packed words.

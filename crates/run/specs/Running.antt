@@ -16,6 +16,16 @@ pub record Steps : Type 0 where
   pub calls : ℕ
   pub outputs : List (List ℕ)
 
+-- the length of each call's work slice
+pub record Works : Type 0 where
+  pub build : ℕ
+  pub materialise : ℕ
+  pub list : ℕ
+
+-- one work slice for all three calls
+abbrev pub one-work : ℕ → Works
+one-work n = record { build = n; materialise = n; list = n }
+
 -- no call
 abbrev pub none-left : Steps
 none-left = record { outcome = accepted []; calls = 0; outputs = [] }
@@ -44,18 +54,18 @@ list-steps T F S cs work lines =
     followed (r .outcome) (r .outputs) none-left []
 
 -- materialise, then listing "on the cells that materialise wrote": the counted front of its output
-unfoldable pub read-call : (T F S : ℕ) (cs ws : List ℕ) (work : ℕ) (trees lines : List ℕ) → Steps
-read-call T F S cs ws work trees lines =
-    let r = materialise-call T cs ws work trees in
-    followed (r .outcome) (r .outputs) (list-steps T F S (take (cell-width * count-at (r .outcome) 0) (output-at (r .outputs) 0)) work lines) (lines ∷ [])
+unfoldable pub read-call : (T F S : ℕ) (cs ws : List ℕ) (works : Works) (trees lines : List ℕ) → Steps
+read-call T F S cs ws works trees lines =
+    let r = materialise-call T cs ws (works .materialise) trees in
+    followed (r .outcome) (r .outputs) (list-steps T F S (take (cell-width * count-at (r .outcome) 0) (output-at (r .outputs) 0)) (works .list) lines) (lines ∷ [])
 
 -- the build, then materialise "on the cells and words it wrote" and listing: the counted fronts of its outputs
-unfoldable pub run-call : (T F b S top : ℕ) (given : Option ℕ) (work : ℕ) (records cells words trees lines : List ℕ) → Steps
-run-call T F b S top given work records cells words trees lines =
-    let r = build-call T F b S top given work records cells words in
+unfoldable pub run-call : (T F b S top : ℕ) (given : Option ℕ) (works : Works) (records cells words trees lines : List ℕ) → Steps
+run-call T F b S top given works records cells words trees lines =
+    let r = build-call T F b S top given (works .build) records cells words in
     let cs = take (cell-width * count-at (r .outcome) 0) (output-at (r .outputs) 0) in
     let ws = take (count-at (r .outcome) 1) (output-at (r .outputs) 1) in
-    followed (r .outcome) (r .outputs) (read-call T F S cs ws work trees lines) (trees ∷ lines ∷ [])
+    followed (r .outcome) (r .outputs) (read-call T F S cs ws works trees lines) (trees ∷ lines ∷ [])
 
 -- What an accepted run wrote, the counted front of each output: the cells and packed words of the build, and the lines. The counts are
 -- cells and words of the build, cells and words of materialise, lines.

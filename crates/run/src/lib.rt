@@ -3,7 +3,7 @@ ghost use mathlib.Core.Path.{_≡_};
 ghost use mathlib.Core.List.{[], _∷_};
 ghost use lib.ListN.{length};
 ghost use Rattle.build.specs.Answer.{given-length};
-ghost use Rattle.run.specs.Running.{read-call, run-call};
+ghost use Rattle.run.specs.Running.{one-work, read-call, run-call};
 ghost use Rattle.run.specs.Answer.{read-outcome, read-calls, ran-outcome, ran-calls};
 
 // What the run answers.
@@ -35,7 +35,7 @@ fn read_back(
     trees: &mut [u32],
     lines: &mut [u32],
 ) -> Read
-    ensures { λ r. ⌜ record { outcome = read-outcome r; calls = read-calls r; outputs = now (trees .exit) ∷ now (lines .exit) ∷ [] } ≡ read-call types «first_repeat» start (now (cells .entry)) (now (words .entry)) (length (now (work .entry))) (now (trees .entry)) (now (lines .entry)) ⌝ }
+    ensures { λ r. ⌜ record { outcome = read-outcome r; calls = read-calls r; outputs = now (trees .exit) ∷ now (lines .exit) ∷ [] } ≡ read-call types «first_repeat» start (now (cells .entry)) (now (words .entry)) (one-work (length (now (work .entry)))) (now (trees .entry)) (now (lines .entry)) ⌝ }
 {
     match materialize::materialize(types, cells, words, work, trees) {
         materialize::Materialized::Refused(number, place) => Read::NotMaterialised(number, place),
@@ -64,7 +64,7 @@ pub fn run(
     trees: &mut [u32],
     lines: &mut [u32],
 ) -> Ran
-    ensures { λ r. ⌜ record { outcome = ran-outcome r; calls = ran-calls r; outputs = now (cells .exit) ∷ now (words .exit) ∷ now (trees .exit) ∷ now (lines .exit) ∷ [] } ≡ run-call types «first_repeat» bound start top (given-length given) (length (now (work .entry))) (now (records .entry)) (now (cells .entry)) (now (words .entry)) (now (trees .entry)) (now (lines .entry)) ⌝ }
+    ensures { λ r. ⌜ record { outcome = ran-outcome r; calls = ran-calls r; outputs = now (cells .exit) ∷ now (words .exit) ∷ now (trees .exit) ∷ now (lines .exit) ∷ [] } ≡ run-call types «first_repeat» bound start top (given-length given) (one-work (length (now (work .entry)))) (now (records .entry)) (now (cells .entry)) (now (words .entry)) (now (trees .entry)) (now (lines .entry)) ⌝ }
 {
     match build::build(
         types,
