@@ -1,4 +1,4 @@
--- Groups that wait to be placed: four words each in the work slice, the last one lowest.
+-- Groups that wait to be placed: four words each in the work slice, the last one lowest. Only internal functions cite these.
 use mathlib.Core.Path.{_≡_}
 use mathlib.Core.List.{List, [], _∷_}
 use mathlib.Core.Option.{Option}

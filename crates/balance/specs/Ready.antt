@@ -1,4 +1,4 @@
--- What balancing asks of a store and leaves in it.
+-- What balancing asks of a store and leaves in it. Only internal functions cite these.
 use mathlib.Core.Path.{_≡_}
 use mathlib.Core.List.{List}
 use mathlib.Core.Bool.{Bool, true, false, cond}

@@ -1,4 +1,4 @@
--- Rows of siblings in a store, their balanced sizes, and the first group of a row.
+-- Rows of siblings in a store, their balanced sizes, and the first group of a row. Only internal functions cite these.
 use mathlib.Core.Path.{_≡_}
 use mathlib.Core.List.{List, _∷_}
 use mathlib.Core.Bool.{cond}

@@ -1,3 +1,4 @@
+// Internal, for the build and the balance call.
 // Balancing on the store of trees: the core of `Tree::balance` and of repeat trees. A row of siblings is its first node and how
 // many they are; the balanced size of each is read off its node.
 ghost use mathlib.Core.Path.{_≡_};

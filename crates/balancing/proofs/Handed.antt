@@ -9,7 +9,6 @@ use native.Mathlib.Omega.{arith}
 use lib.ListN.{length, getD}
 use Rattle.tree.specs.Trees.{Trees, nil, tree, part, nodes}
 use Rattle.tree.specs.Cells.{packed, cells, relative}
-use Rattle.tree.proofs.Well.{Parts, Sound, Short}
 use Rattle.tree.proofs.WellLaws.{well-≤}
 use Rattle.tree.proofs.CellLaws.{length-cells}
 use Rattle.tree.proofs.KeptLaws.{Kept, kept-read}
@@ -19,6 +18,7 @@ use Rattle.rules.specs.Calls.{handed-in}
 use Rattle.rules.proofs.Decoded.{accepted-kept}
 use Rattle.balancing.specs.Steps.{bases, onwards, Given}
 use Rattle.balancing.proofs.Sites.{Fits, From, Site, sites}
+use Rattle.tree.specs.Well.{Parts, Sound, Short}
 
 short-of : (ws : List ℕ) → ((j : ℕ) → getD ws j 0 < 65536) → Short ws
 short-of [] f = tt

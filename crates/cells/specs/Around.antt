@@ -1,4 +1,4 @@
--- The records around the present one of a part, in the work slice.
+-- The records around the present one of a part, in the work slice. Only internal functions cite these.
 use mathlib.Core.Path.{_≡_}
 use mathlib.Core.Bool.{Bool, _||_, cond}
 use mathlib.Core.List.{List, [], _∷_}

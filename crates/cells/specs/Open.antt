@@ -1,4 +1,4 @@
--- The open links in the work slice, as the functions that read and write them promise each other.
+-- The open links in the work slice, as the functions that read and write them promise each other. Only internal functions cite these.
 use mathlib.Core.Path.{_≡_}
 use mathlib.Core.Bool.{Bool, true, false, _&&_, not, cond}
 use mathlib.Core.List.{List, [], _∷_}

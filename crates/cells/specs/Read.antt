@@ -1,4 +1,4 @@
--- A cell that the code has read.
+-- A cell that the code has read. Only internal functions cite this.
 use Rattle.rules.specs.Cell.{Cell}
 use Rattle.cells.specs.declared.CellWords.{CellWords}
 

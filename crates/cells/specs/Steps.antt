@@ -1,4 +1,5 @@
--- The tree check's tests on words, and what its functions promise each other. The laws in proofs/ tie this to crate `rules`.
+-- The tree check's tests on words, and what its functions promise each other. Only internal functions cite these; the laws in proofs/ tie
+-- them to crate `rules`.
 use mathlib.Core.Path.{_≡_}
 use mathlib.Core.Bool.{Bool, false, _&&_, _||_, not, cond}
 use mathlib.Core.List.{List}

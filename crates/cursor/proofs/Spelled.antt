@@ -11,18 +11,13 @@ use lib.ListN.{getD}
 use Rattle.tree.specs.Items.{Items, mark, span, repeats, items, records, first}
 use Rattle.tree.proofs.Reading.{after}
 use Rattle.tree.specs.Pack.{width, words}
-use Rattle.cursor.specs.Spells.{Spells, Marked, Passed, Stands, Standing}
+use Rattle.cursor.specs.Spells.{Spells, Marked, Passed, Stands, Standing, skips}
 
 pub marked-passed : (F : ℕ) (own : Option ℕ) (its : Items) → Marked F own its → Passed F its
 marked-passed F own Items.nil m = tt
 marked-passed F own (mark i s e n rest) m = record { repeat = m .repeat; rest = marked-passed F own rest (m .rest) }
 marked-passed F own (span i s e kids rest) m =
     record { inner = marked-passed F (repeats F i) kids (m .inner); rest = marked-passed F own rest (m .rest) }
-
--- the words of the repeat records among the first n
-unfoldable pub skips : (F : ℕ) (w : List ℕ) (n : ℕ) → ℕ
-skips F w zero = 0
-skips F w (suc n) = skips F w n + cond (leb F (getD w (n * 4) 0)) 4 0
 
 pub skips-last : (F : ℕ) (w : List ℕ) (p : ℕ) → 0 < p → skips F w p ≡ skips F w (p - 1) + cond (leb F (getD w ((p - 1) * 4) 0)) 4 0
 unfolding skips

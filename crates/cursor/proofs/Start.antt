@@ -17,9 +17,10 @@ use Rattle.records.specs.Parse.{parse}
 use Rattle.records.specs.Check.{Accepted}
 use Rattle.records.proofs.AcceptLaws.{accepted-list, accepted-nested}
 use Rattle.records.proofs.Spelling.{words-of, word-at}
-use Rattle.tree.proofs.ItemLaws.{Fits, fits-items, own-none}
+use Rattle.tree.proofs.ItemLaws.{fits-items, own-none}
 use Rattle.cursor.specs.Spells.{Spells, Marked, Stands}
 use Rattle.cursor.proofs.Spelled.{spells-count}
+use Rattle.tree.specs.Ordered.{Fits}
 
 no-records : records Items.nil ≡ 0
 unfolding records

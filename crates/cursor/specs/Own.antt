@@ -1,4 +1,4 @@
--- What records stand under, as the definitions have it.
+-- What records stand under, as the definitions have it. Only internal functions cite these.
 use mathlib.Core.Option.{Option, none, some}
 use Prim.Native.Nat.{ℕ}
 use Rattle.cursor.specs.declared.InRepeat.{InRepeat}

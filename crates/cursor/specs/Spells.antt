@@ -1,12 +1,13 @@
 -- The words of a record list, and the items that they spell: what the functions of the build ask of a place in the list. Nothing
 -- here is needed to read what a call promises.
 use mathlib.Core.Path.{_≡_}
-use mathlib.Core.Bool.{true, false}
+use mathlib.Core.Bool.{true, false, cond}
 use mathlib.Core.List.{List}
 use mathlib.Core.Option.{Option}
-use Prim.Native.Nat.{ℕ, suc, _+_, _-_, _*_, _≤_, _<_}
+use Prim.Native.Nat.{ℕ, suc, _+_, _-_, _*_, _≤_, _<_, zero}
 use lib.ListN.{length, getD}
 use Rattle.tree.specs.Items.{Items, nil, mark, span, same, repeats, records}
+use lib.Dec.{leb}
 
 -- The records from number lo up to p, without p, spell these items from the last one back: a mark is its record alone, a
 -- span its record behind its kids.
@@ -56,3 +57,8 @@ pub record Standing (F : ℕ) (own : Option ℕ) (w : List ℕ) (lo p : ℕ) : T
   pub its : Items
   pub stands : Stands F own w lo p its
   pub some-record : lo < p
+
+-- the words of the repeat records among the first n
+unfoldable pub skips : (F : ℕ) (w : List ℕ) (n : ℕ) → ℕ
+skips F w zero = 0
+skips F w (suc n) = skips F w n + cond (leb F (getD w (n * 4) 0)) 4 0

@@ -1,3 +1,4 @@
+// Internal, for the build.
 // The place of a reader in a record list: which items stand before it (specs/), their laws (proofs/), and what records stand under.
 ghost use mathlib.Core.Path.{_≡_};
 ghost use Rattle.tree.specs.Items.{same, repeats};

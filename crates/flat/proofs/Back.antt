@@ -10,12 +10,13 @@ use lib.Dec.{leb}
 use lib.ListN.{length, getD}
 use Rattle.tree.specs.Items.{Items}
 use Rattle.tree.specs.Flat.{Record, rec, hold, flattened, flat-words}
-use Rattle.tree.proofs.Well.{Short}
-use Rattle.tree.proofs.FlatLaws.{Sorted, Held, floor, hold-held}
+use Rattle.tree.proofs.FlatLaws.{Held, hold-held}
 use Rattle.cursor.specs.Spells.{Spells}
 use Rattle.cursor.proofs.Back.{back}
 use Rattle.cursor.proofs.Spelled.{spells-count, spells-none}
 use Rattle.flat.specs.Back.{record-at, from-back, held-in}
+use Rattle.tree.specs.Well.{Short}
+use Rattle.tree.specs.Ordered.{Sorted, floor}
 
 -- a record above 4 words is dropped, another is held
 pub hold-none : (i s e n : ℕ) (rs : List Record) → 4 < n → hold (rec i s e n) rs ≡ rs

@@ -12,9 +12,10 @@ use lib.ListN.{length, getD}
 use Rattle.tree.specs.Items.{same}
 use Rattle.tree.specs.Groups.{Gathered, gather, pass}
 use Rattle.tree.specs.Flat.{Record, rec, hold, held-end, flat-part, limit, full, ends, flat}
-use Rattle.tree.proofs.ShortLaws.{Room, room-none, room-hold}
+use Rattle.tree.proofs.ShortLaws.{room-none, room-hold}
 use Rattle.flat.specs.Back.{record-at, from-back, held-in, Extends}
 use Rattle.flat.proofs.Back.{hold-none, hold-one, back-step, back-none, held-none, held-step}
+use Rattle.tree.specs.Ordered.{Room}
 
 -- nothing held adds nothing
 pub gather-none : (g : Gathered) → gather (flat-part []) g ≡ g

@@ -11,13 +11,14 @@ use lib.ListN.{length}
 use Rattle.tree.specs.Trees.{Trees, nil, tree, part}
 use Rattle.tree.specs.Groups.{Gathered, gather}
 use Rattle.tree.specs.Flat.{Record, rec, flat-words, held-end, flat-part}
-use Rattle.tree.proofs.Well.{Short}
 use Rattle.tree.proofs.FlatLaws.{Held}
-use Rattle.tree.proofs.ShortLaws.{Room, short-flat}
+use Rattle.tree.proofs.ShortLaws.{short-flat}
 use Rattle.tree.proofs.WellBuild.{held-tight}
 use Rattle.gathering.specs.Gathering.{due}
 use Rattle.gathering.proofs.Due.{due-part, due-leaf}
 use Rattle.flat.proofs.Extending.{gather-none}
+use Rattle.tree.specs.Well.{Short}
+use Rattle.tree.specs.Ordered.{Room}
 
 pub part-none : (held : List Record) (ts : Trees) → held ≡ [] → flat-part held ts ≡ ts
 unfolding flat-part

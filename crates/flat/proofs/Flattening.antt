@@ -10,7 +10,6 @@ use lib.ListN.{length, getD}
 use Rattle.tree.specs.Items.{same}
 use Rattle.tree.specs.Groups.{Gathered, gather, pass}
 use Rattle.tree.specs.Flat.{Record, rec, flattened, flat-part, hold, limit, ends, flat}
-use Rattle.tree.proofs.FlatLaws.{Sorted, floor}
 use Rattle.tree.proofs.ItemLaws.{sorted-flattened}
 use Rattle.store.specs.Store.{Same, Readable}
 use Rattle.store.proofs.Frame.{same-less, frame, readable}
@@ -24,6 +23,7 @@ use Rattle.flat.specs.Taking.{FlatReady, TakenFlat}
 use Rattle.flat.proofs.Back.{back-none, back-step, sorted-held, items-read}
 use Rattle.flat.proofs.Extending.{gather-none, flat-passes, flat-begins}
 use Rattle.flat.proofs.Flats.{due-held}
+use Rattle.tree.specs.Ordered.{Sorted, floor}
 
 flat-end : (b : ℕ) (own : Option ℕ) (g : Gathered) → flat b own [] false [] 0 g ≡ g
 unfolding flat

@@ -11,14 +11,15 @@ use lib.ListN.{length, getD}
 use Rattle.tree.specs.Trees.{Trees, nil, part}
 use Rattle.tree.specs.Cells.{kind, id-word}
 use Rattle.tree.specs.Flat.{Record, rec, flat-words, flat-part, held-end}
-use Rattle.tree.proofs.Well.{Short}
-use Rattle.tree.proofs.FlatLaws.{Sorted, Held}
+use Rattle.tree.proofs.FlatLaws.{Held}
 use Rattle.store.specs.Store.{Holds, Same, Readable, PushedTree, PushedPart}
 use Rattle.store.proofs.Frame.{same-less, frame}
 use Rattle.flat.specs.Back.{from-back, held-in, Extends}
 use Rattle.flat.specs.Parts.{StageReady, StagedFlat, NodeReady, TookFlat}
 use Rattle.flat.proofs.Back.{held-few, sorted-held}
 use Rattle.flat.proofs.Flats.{part-none, part-lone, part-many, short-part, words-length}
+use Rattle.tree.specs.Well.{Short}
+use Rattle.tree.specs.Ordered.{Sorted}
 
 no-records : (rs : List Record) → 0 ≡ length rs → rs ≡ []
 no-records [] h = refl

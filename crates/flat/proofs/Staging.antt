@@ -6,11 +6,11 @@ use native.Mathlib.Omega.{arith}
 use native.Mathlib.Nat.{le-refl}
 use lib.ListN.{length, getD}
 use Rattle.tree.specs.Flat.{Record, rec, hold, flat-words}
-use Rattle.tree.proofs.Well.{Short}
 use Rattle.store.specs.Store.{Same, Staged, StagedMore}
 use Rattle.flat.specs.Back.{record-at, held-in}
 use Rattle.flat.specs.Parts.{RecordReady, StagedRecord, StageReady, StagedFlat}
 use Rattle.flat.proofs.Back.{hold-none, hold-one, held-none, held-one, held-step, held-split, short-split}
+use Rattle.tree.specs.Well.{Short}
 
 pub same-down : (l l₁ l₂ : List ℕ) (b a low : ℕ) → b ≤ a → a ≤ low → Same l l₁ 0 a low → Same l₁ l₂ 0 b a → Same l l₂ 0 b low
 same-down l l₁ l₂ b a low h k s t = record {

@@ -8,7 +8,7 @@ use Prim.Native.Nat.{ℕ, zero, suc, _+_, _-_, _*_, _≤_, _<_}
 use lib.ListN.{length, getD}
 use Rattle.tree.specs.Groups.{Gathered, gather}
 use Rattle.tree.specs.Flat.{Record, rec, hold, held-end, flat-part, flat}
-use Rattle.tree.proofs.ShortLaws.{Room}
+use Rattle.tree.specs.Ordered.{Room}
 
 -- record number j
 abbrev pub record-at : (w : List ℕ) (j : ℕ) → Record

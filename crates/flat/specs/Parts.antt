@@ -8,10 +8,10 @@ use lib.ListN.{length, getD}
 use Rattle.tree.specs.Trees.{Trees}
 use Rattle.tree.specs.Groups.{Gathered, gather}
 use Rattle.tree.specs.Flat.{flat-words, flat-part, flat}
-use Rattle.tree.proofs.Well.{Short}
-use Rattle.tree.proofs.FlatLaws.{Sorted}
 use Rattle.store.specs.Store.{Staged, Same, Holds, Readable}
 use Rattle.flat.specs.Back.{from-back, held-in}
+use Rattle.tree.specs.Well.{Short}
+use Rattle.tree.specs.Ordered.{Sorted}
 
 -- record number j can be staged in a part that starts at q, with this end index: its words have 16 bits
 pub record RecordReady (w l : List ℕ) (j q index low : ℕ) : Type 0 where

@@ -7,11 +7,11 @@ use lib.ListN.{length}
 use Rattle.tree.specs.Items.{Items}
 use Rattle.tree.specs.Groups.{Gathered}
 use Rattle.tree.specs.Flat.{flattened, flat}
-use Rattle.tree.proofs.ItemLaws.{Fits}
 use Rattle.store.specs.Store.{Same}
 use Rattle.balance.specs.Ready.{HoldsGathered}
 use Rattle.gathering.specs.Gathering.{due}
 use Rattle.cursor.specs.Spells.{Stands}
+use Rattle.tree.specs.Ordered.{Fits}
 
 -- Items that stand from record lo up to p under the repeat id `own`, and what their tree has gathered so far: 24 words for
 -- each unit that is due and 40 for each record are free between `top` and `low`.

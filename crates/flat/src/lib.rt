@@ -1,3 +1,4 @@
+// Internal, for the build.
 // Flat parts: `take_flat_node`, and the loop over the records below a tree deeper than 2,500.
 ghost use mathlib.Core.Path.{_≡_};
 ghost use mathlib.Core.Bool.{cond, _&&_};

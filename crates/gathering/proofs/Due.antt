@@ -11,8 +11,9 @@ use Rattle.tree.specs.Items.{Items, same}
 use Rattle.tree.specs.Pack.{run-part}
 use Rattle.tree.specs.Balance.{same-type, total}
 use Rattle.tree.specs.Groups.{Gathered, fresh, gather, close, pass, rest-closed, finish}
-use Rattle.tree.proofs.OwnLaws.{own-total, own-total-⊕, own-finish, total-group}
+use Rattle.tree.proofs.OwnLaws.{own-total-⊕, own-finish, total-group}
 use Rattle.gathering.specs.Gathering.{due}
+use Rattle.tree.specs.Well.{own-total}
 
 module _ (own : Option ℕ) where
   pub due-fresh : (e : ℕ) → due own (fresh e) ≡ 0

@@ -3,9 +3,9 @@ use mathlib.Core.List.{List}
 use Prim.Native.Nat.{ℕ, _+_, _≤_}
 use native.Mathlib.Omega.{arith}
 use Rattle.tree.specs.Trees.{Trees, nil, tree, part}
-use Rattle.tree.proofs.Well.{Well}
 use Rattle.tree.proofs.WellLaws.{well-≤}
 use Rattle.balance.specs.Rows.{Ends}
+use Rattle.tree.specs.Well.{Well}
 
 module _ (T : ℕ) (Inside : ℕ → ℕ → List ℕ → Type 0) where
   pub ends-well : (lo hi : ℕ) (ts : Trees) → Well T Inside lo hi ts → hi ≤ 4294967295 → Ends ts

@@ -16,7 +16,6 @@ use Rattle.tree.specs.Items.{repeats}
 use Rattle.tree.specs.Groups.{Gathered, rest-closed, finish}
 use Rattle.tree.proofs.ListingLaws.{⊕-nil}
 use Rattle.tree.proofs.OwnLaws.{total-rest-closed}
-use Rattle.tree.proofs.Well.{Parts}
 use Rattle.tree.proofs.WellLaws.{well-rest-closed}
 use Rattle.store.specs.Store.{Readable, told, PushedTree}
 use Rattle.store.proofs.Frame.{same-less, frame, readable, tells-trees}
@@ -27,6 +26,7 @@ use Rattle.gathering.specs.Gathering.{due, RestClosed, GroupsReady, Grou
 use Rattle.gathering.proofs.Due.{total-closed}
 use Rattle.gathering.proofs.Ends.{ends-well}
 use Rattle.gathering.proofs.Passing.{none-at, some-at}
+use Rattle.tree.specs.Well.{Parts}
 
 siblings-some : (ts : Trees) → is-nil ts ≡ false → 1 ≤ siblings ts
 unfolding is-nil siblings

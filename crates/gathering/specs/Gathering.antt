@@ -10,12 +10,10 @@ use Rattle.tree.specs.Trees.{Trees, nil, _⊕_, is-nil}
 use Rattle.tree.specs.Items.{repeats}
 use Rattle.tree.specs.Groups.{Gathered, pass, rest-closed, finish}
 use Rattle.tree.specs.Balance.{total, balance}
-use Rattle.tree.proofs.OwnLaws.{own-total}
-use Rattle.tree.proofs.Well.{Parts}
-use Rattle.tree.proofs.WellLaws.{Gathers}
 use Rattle.store.specs.Store.{Holds, Same}
 use Rattle.balance.specs.Rows.{Ends}
 use Rattle.balance.specs.Ready.{HoldsGathered}
+use Rattle.tree.specs.Well.{own-total, Parts, Gathers}
 
 -- the balanced size that what is gathered may come to under the repeat id `own`, but for a last group
 unfoldable pub due : (own : Option ℕ) → Gathered → ℕ

@@ -1,3 +1,4 @@
+// Internal, for the build.
 // What a tree gathers, closed and finished: the group rule for records of a repeat tree's own id, and `finish_node`.
 ghost use Prim.Native.Nat.{_+_, _≤_, _<_};
 ghost use lib.ListN.{length};

@@ -11,7 +11,6 @@ use Rattle.tree.specs.Trees.{Trees, nil, tree, part, nodes, kids-of}
 use Rattle.tree.specs.Cells.{relative, absolute, cells, unless-none}
 use Rattle.tree.specs.Listing.{listing, lines}
 use Rattle.tree.specs.Calls.{list-cells}
-use Rattle.tree.proofs.Well.{Parts, Sound}
 use Rattle.tree.proofs.WellLaws.{well-≤}
 use Rattle.tree.proofs.CellLaws.{length-cells}
 use Rattle.tree.proofs.KeptLaws.{kept-decode}
@@ -21,6 +20,7 @@ use Rattle.rules.proofs.Decoded.{accepted-kept, accepted-only}
 use Rattle.listing.specs.Steps.{lines-from, noted}
 use Rattle.listing.proofs.Opens.{Open, Fits, All-fit, left-cells, left-lines, push, push-cells, push-lines, push-fits, counted}
 use Rattle.listing.proofs.Turns.{State, noted-push, link-room}
+use Rattle.tree.specs.Well.{Parts, Sound}
 
 -- trees that keep the rules and have no parts
 sound-fits : (T S q b lo hi : ℕ) (ts : Trees) → b ≡ S + q → S + hi ≤ 4294967295 → q ≤ lo → Sound T lo hi ts → Only false (relative q ts) → Fits b (relative q ts)

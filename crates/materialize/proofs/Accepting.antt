@@ -16,7 +16,6 @@ use Rattle.tree.specs.Trees.{nodes}
 use Rattle.tree.specs.Cells.{decode, decode-from, packed, absolute, cells, tree-cells}
 use Rattle.tree.specs.Calls.{materialise-cells}
 use Rattle.tree.specs.Materialise.{materialise}
-use Rattle.tree.proofs.Well.{Short}
 use Rattle.rules.specs.Cell.{Cell, cells-of}
 use Rattle.rules.specs.PartLowest.{part-kept}
 use Rattle.rules.specs.Lowest.{Named, kind-broken, id-broken, part-broken, end-broken, top-broken, lowest-from, top-named, bad-cell, first-named, next-named, words-end}
@@ -32,6 +31,7 @@ use Rattle.materialize.specs.Steps.{unpacked, cells-before, ahead, part-
 use Rattle.materialize.proofs.Handing.{nodes-relative}
 use Rattle.materialize.proofs.Reading.{nodes-unpacked, materialised}
 use Rattle.materialize.proofs.Finishing.{counted-all}
+use Rattle.tree.specs.Well.{Short}
 
 module _ (T : ℕ) (ws : List ℕ) (n : ℕ) where
   -- a cell that breaks no rule

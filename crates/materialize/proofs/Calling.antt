@@ -13,12 +13,12 @@ use Rattle.words.specs.Words.{front}
 use Rattle.tree.specs.Trees.{nodes}
 use Rattle.tree.specs.Materialise.{materialise}
 use Rattle.tree.specs.Cells.{cells}
-use Rattle.tree.proofs.Well.{Short}
 use Rattle.rules.specs.Lowest.{bad-cell}
 use Rattle.rules.specs.Calls.{items, result-room, handed-in, materialise-call}
 use Rattle.rules.proofs.CallLaws.{types-refused, work-refused, cell-refused, not-refused, unnumbered-cells, few-cells, materialise-refused, materialise-writes}
 use Rattle.materialize.specs.Steps.{cells-before, unpacked, ahead, Ready}
 use Rattle.materialize.proofs.Accepting.{typed-at, parts-fit, total-is, total-few, written-is}
+use Rattle.tree.specs.Well.{Short}
 
 call-refused : (T : ℕ) (cs ws : List ℕ) (work : ℕ) (out : List ℕ) → T ≤ 65536 → 96 * items cs ws + 96 ≤ work → bad-cell T 0 true cs ws ≡ none
     → result-room (nodes (materialise (handed-in cs ws))) 0 (length out) 0 ≡ refused 12 0

@@ -1,5 +1,5 @@
 -- What the writer of materialised cells keeps: trees without parts, written as cells from the last one back, with the numbers of the
--- siblings that have no parent yet in the work slice.
+-- siblings that have no parent yet in the work slice. Only internal functions cite these.
 use mathlib.Core.Path.{_≡_}
 use mathlib.Core.List.{List, [], _∷_}
 use mathlib.Core.Option.{Option, none, some}

@@ -10,12 +10,12 @@ use lib.Seq.{take-length, take-take, length-take-le}
 use Rattle.words.specs.Words.{put}
 use Rattle.tree.specs.Items.{Items, mark, span, records}
 use Rattle.tree.specs.Pack.{width, words, entry, pack}
-use Rattle.tree.proofs.PackLaws.{From}
 use Rattle.cursor.specs.Spells.{Passed}
 use Rattle.cursor.proofs.Spelled.{spells-none}
 use Rattle.cursor.proofs.Back.{onto, spells-onto}
 use Rattle.pack.specs.Copying.{span-start, behind, packed-record, Ready, Copyable, Copies}
 use Rattle.pack.proofs.Parts.{Front, ready-cut, ready-uncut, behind-cut, rear-front, rear-drop}
+use Rattle.tree.specs.Ordered.{From}
 
 words-onto : (F : ℕ) (a b : Items) → words F (onto a b) ≡ words F b + words F a
 unfolding onto words

@@ -9,10 +9,9 @@ use lib.ListN.{length, getD}
 use Rattle.tree.specs.Items.{Items, span, records, first, leftmost}
 use Rattle.tree.specs.Pack.{words, pack, run-from}
 use Rattle.tree.proofs.Reading.{after}
-use Rattle.tree.proofs.ItemLaws.{Fits, from-leftmost, fits-after}
+use Rattle.tree.proofs.ItemLaws.{from-leftmost, fits-after}
 use Rattle.tree.proofs.ShortLaws.{run-packs, short-pack, fits-under, under-up, under-first}
 use Rattle.tree.proofs.RecordCounts.{words-records}
-use Rattle.tree.proofs.Well.{Short}
 use Rattle.cursor.specs.Spells.{Stands}
 use Rattle.cursor.proofs.Spelled.{spells-count, stands-first, stands-after}
 use Rattle.scan.specs.Walked.{Remembered, Scans}
@@ -22,6 +21,8 @@ use Rattle.store.specs.Store.{Staged, Same}
 use Rattle.store.proofs.Puts.{put-length, put-in}
 use Rattle.store.proofs.Frame.{same-put}
 use Rattle.pack.specs.Taking.{Filled, Takable}
+use Rattle.tree.specs.Ordered.{Fits}
+use Rattle.tree.specs.Well.{Short}
 
 -- What taking a span asks, where there is room for four words a record still to read.
 pub takable : (F : ℕ) (own : Option ℕ) (w : List ℕ) (lo p bound : ℕ) (memo : Memo) (l : List ℕ) (low T from to i s e : ℕ) (kids rest : Items)

@@ -8,7 +8,7 @@ use borrow.Author.Tests.{lt-leb}
 use lib.ListN.{length, getD}
 use Rattle.tree.specs.Items.{Items, span, records, first, leftmost}
 use Rattle.tree.specs.Pack.{words, pack, run-from}
-use Rattle.tree.proofs.ItemLaws.{Fits, from-leftmost}
+use Rattle.tree.proofs.ItemLaws.{from-leftmost}
 use Rattle.tree.proofs.ShortLaws.{run-packs}
 use Rattle.tree.proofs.RecordCounts.{length-pack, words-records}
 use Rattle.cursor.specs.Spells.{Stands}
@@ -23,6 +23,7 @@ use Rattle.scan.proofs.Memory.{remembered-lower}
 use Rattle.scan.proofs.Answered.{answered-run, answered-nothing}
 use Rattle.pack.specs.Taking.{Filled, Runs, Packable, Takable, Takes, memo-of}
 use Rattle.pack.specs.declared.Taken.the-variants.{Packed, Unpacked}
+use Rattle.tree.specs.Ordered.{Fits}
 
 -- The run that a scan answered.
 pub record Measures (F b : ℕ) (own : Option ℕ) (i s e : ℕ) (kids rest : Items) (t : BufferScan) : Type 0 where

@@ -7,8 +7,8 @@ use lib.Dec.{leb}
 use lib.ListN.{length, getD, take}
 use Rattle.tree.specs.Items.{Items}
 use Rattle.tree.specs.Pack.{words, pack}
-use Rattle.tree.proofs.PackLaws.{From}
 use Rattle.cursor.specs.Spells.{Spells, Passed}
+use Rattle.tree.specs.Ordered.{From}
 
 -- the word where the span of the record that ends before word p begins
 abbrev pub span-start : List ℕ → ℕ → ℕ

@@ -7,8 +7,6 @@ use lib.ListN.{length}
 use Rattle.words.specs.Words.{put}
 use Rattle.tree.specs.Items.{Items, span, records, first, leftmost}
 use Rattle.tree.specs.Pack.{words, pack}
-use Rattle.tree.proofs.PackLaws.{From}
-use Rattle.tree.proofs.ItemLaws.{Fits}
 use Rattle.cursor.specs.Spells.{Stands}
 use Rattle.scan.specs.Walked.{Remembered, Scans}
 use Rattle.scan.specs.declared.BufferScan.{BufferScan}
@@ -17,6 +15,7 @@ use Rattle.scan.specs.declared.Scan.{Scan}
 use Rattle.scan.specs.declared.Scan.the-variants.{Run, Nothing}
 use Rattle.pack.specs.declared.Taken.{Taken}
 use Rattle.pack.specs.declared.Taken.the-variants.{Packed, Unpacked}
+use Rattle.tree.specs.Ordered.{From, Fits}
 
 -- the words `ws` stand from `low` up to `high`, and nothing else is changed
 pub record Filled (l l′ : List ℕ) (low high : ℕ) (ws : List ℕ) : Type 0 where

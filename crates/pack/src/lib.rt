@@ -1,3 +1,4 @@
+// Internal, for the build.
 // Packing a run: the words of its records, one 16-bit word to a word, are staged in the work slice from the top down.
 ghost use mathlib.Core.Path.{_≡_};
 ghost use mathlib.Core.List.{[], _∷_};
@@ -7,7 +8,6 @@ ghost use lib.ListN.{length, getD};
 ghost use Rattle.words.specs.Words.{put};
 ghost use Rattle.tree.specs.Items.{Items, span};
 ghost use Rattle.tree.specs.Pack.{pack, run-from};
-ghost use Rattle.tree.proofs.ItemLaws.{Fits};
 ghost use Rattle.cursor.specs.Own.{own-of};
 ghost use Rattle.scan.specs.Walked.{Scans};
 ghost use Rattle.pack.specs.Copying.{span-start, behind, packed-record, Recorded, Ready, Copyable, Copies, Fills, Fillable};
@@ -19,6 +19,7 @@ use scan::BufferScan;
 use scan::Memo;
 use scan::Scan;
 use scan::find_buffer_size;
+ghost use Rattle.tree.specs.Ordered.{Fits};
 
 // A part that is staged: the records still to read, its lowest word, where it starts and how long it is.
 pub struct Part {

@@ -1,3 +1,4 @@
+// Internal: the build reads records through it.
 // The reader: a record list with a place in it, read from the last record back. A place is the number of records before it.
 ghost use mathlib.Core.Path.{_≡_};
 ghost use Prim.Native.Nat.{_-_, _/_, _<_};

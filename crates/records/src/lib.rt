@@ -1,4 +1,5 @@
-// Record lists: the reader's functions, and the check of document 01.
+// Record lists: the check of document 01, a call for users; and functions that read one record, for other crates, which ask that it is
+// there.
 ghost use mathlib.Core.Path.{_≡_};
 ghost use mathlib.Core.Bool.{true, cond, _&&_};
 ghost use Prim.Native.Nat.{ℕ, _+_, _-_, _*_, _/_, _%_, _<_, _≤_, min};

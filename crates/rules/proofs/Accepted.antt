@@ -18,13 +18,13 @@ use Rattle.tree.specs.Trees.{Trees, nil, tree, part, _⊕_, nodes}
 use Rattle.tree.specs.Materialise.{within, beyond, unpack, materialise}
 use Rattle.tree.specs.Cells.{relative, absolute, packed, cells, decode, tree-cells, cell-width}
 use Rattle.tree.specs.Calls.{build-cells, materialise-cells, Written, balance-cells, list-cells}
-use Rattle.tree.proofs.Well.{Short}
 use Rattle.tree.proofs.CellLaws.{decode-all, length-cells}
 use Rattle.tree.proofs.KeptLaws.{Kept, build-kept, materialise-kept, ends-fit, materialise-keeps}
 use Rattle.rules.proofs.Grown.{Only}
 use Rattle.rules.proofs.Decoded.{accepted-kept, accepted-only, accepted-decode}
 use Rattle.rules.proofs.Encoded.{kept-accepted}
 use Rattle.rules.proofs.SamePlace.{same-none}
+use Rattle.tree.specs.Well.{Short}
 
 -- all parts are allowed
 only-true : (ts : Trees) → Only true ts

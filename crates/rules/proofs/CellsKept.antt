@@ -14,10 +14,10 @@ use lib.Seq.{take-at}
 use Rattle.tree.specs.Trees.{Trees, nil, tree, part, nodes, siblings}
 use Rattle.tree.specs.Materialise.{within}
 use Rattle.tree.specs.Cells.{unless-none, kind, id-word}
-use Rattle.tree.proofs.Well.{Known, Parts}
 use Rattle.rules.proofs.Tests.{and-none}
 use Rattle.rules.proofs.PartWritten.{parts-kept}
 use Rattle.rules.proofs.Keeping.{Keeps}
+use Rattle.tree.specs.Well.{Known, Parts}
 
 -- the cell that a link x names, if it names one, before the other named cells
 unfoldable pub due : (x after : ℕ) (within : Option ℕ) (base : ℕ) → List Named → List Named

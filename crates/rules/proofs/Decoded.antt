@@ -14,13 +14,13 @@ use lib.ListN.{length, take, drop, length-take, length-drop, take-append-drop}
 use lib.Seq.{drop-length, drop-drop}
 use Rattle.tree.specs.Trees.{Trees, nil, tree, nodes, siblings, part}
 use Rattle.tree.specs.Cells.{relative, absolute, packed, unless-none, kind, id-word, cells, decode}
-use Rattle.tree.proofs.Well.{Parts, Short, Sound}
 use Rattle.tree.proofs.CellLaws.{packed-relative}
 use Rattle.tree.proofs.KeptLaws.{Kept, kept-decode, counted, sound-counted}
 use Rattle.rules.proofs.Tests.{neither}
 use Rattle.rules.proofs.PartRead.{short-parts}
 use Rattle.rules.proofs.Keeping.{Keeps, keeps, words-of, words-cells, leads, first-part, end-part, end-tree, accepted-step, count-tree}
 use Rattle.rules.proofs.Grown.{Only, ends-upto, Grown, Laid, grown-next, grown-first, typed, link-chain, grown-tree, grown-part}
+use Rattle.tree.specs.Well.{Parts, Short, Sound}
 
 short-drop : (n : ℕ) (ws : List ℕ) → Short ws → Short (drop n ws)
 short-drop zero ws h = h

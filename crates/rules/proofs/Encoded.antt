@@ -13,7 +13,6 @@ use Rattle.rules.specs.Lowest.{chain, chains, any-part, named, top-broke
 use lib.ListN.{length}
 use Rattle.tree.specs.Trees.{Trees, nil, tree, nodes, siblings}
 use Rattle.tree.specs.Cells.{relative, absolute, packed, unless-none, kind, id-word, cells, decode}
-use Rattle.tree.proofs.Well.{Parts, Sound}
 use Rattle.tree.proofs.CellLaws.{packed-relative, absolute-relative, shift-zero}
 use Rattle.tree.proofs.KeptLaws.{Kept, kept-decode}
 use Rattle.rules.proofs.Keeping.{Keeps, words-of, cells-words, length-words}
@@ -21,6 +20,7 @@ use Rattle.rules.proofs.Grown.{Only}
 use Rattle.rules.proofs.Listed.{listed, words-listed, length-listed, chain-listed, no-part}
 use Rattle.rules.proofs.CellsKept.{due, upper, link-kept}
 use Rattle.rules.proofs.Runs.{Good, runs, lowest-step}
+use Rattle.tree.specs.Well.{Parts, Sound}
 
 module _ (T : ℕ) (types : T ≤ 65536) (parts : Bool) (ws : List ℕ) (n S hi : ℕ) (fits : S + hi ≤ 4294967295) where
   -- cell 1

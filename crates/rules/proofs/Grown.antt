@@ -15,8 +15,8 @@ use lib.ListN.{length, getD, drop, length-append}
 use lib.Seq.{drop-drop, getD-drop}
 use Rattle.tree.specs.Trees.{Trees, nil, tree, part, nodes, siblings}
 use Rattle.tree.specs.Cells.{absolute, packed, unless-none, kind, id-word, cells}
-use Rattle.tree.proofs.Well.{Known, Parts, Sound}
 use Rattle.rules.proofs.Keeping.{chain-leads, chain-ends, child-tree}
+use Rattle.tree.specs.Well.{Known, Parts, Sound}
 
 -- Are the parts that there are allowed?
 abbrev pub Only : Bool → Trees → Type 0

@@ -10,9 +10,9 @@ use lib.Dec.{leb}
 use lib.ListN.{length, length-append}
 use Rattle.tree.specs.Trees.{Trees, nil, tree, part, _⊕_, nodes}
 use Rattle.tree.specs.Materialise.{within, beyond, unpack}
-use Rattle.tree.proofs.Well.{spelled}
 use Rattle.tree.proofs.PartForms.{open-ends}
 use Rattle.rules.specs.PartLowest.{Around, still}
+use Rattle.tree.specs.Well.{spelled}
 
 -- the end indices of records around
 abbrev pub stops : List Around → List ℕ

@@ -11,11 +11,11 @@ use borrow.Author.Tests.{le-leb, lt-leb}
 use Rattle.tree.specs.Trees.{Trees, nil, tree, part, nodes}
 use Rattle.tree.specs.Materialise.{unpack}
 use Rattle.tree.specs.Cells.{id-word}
-use Rattle.tree.proofs.Well.{Plain, Parts, spelled}
 use Rattle.tree.proofs.WellLaws.{well-≤}
 use Rattle.tree.proofs.PartLaws.{parts-accepted}
 use Rattle.rules.specs.PartLowest.{Around, still, earliest, bound, ranges, part-kept}
 use Rattle.rules.proofs.PartTrees.{Entries, entries-unpack}
+use Rattle.tree.specs.Well.{Plain, Parts, spelled}
 
 -- T types, a part that starts at p with the length l
 module _ (T p l : ℕ) where

@@ -15,12 +15,12 @@ use lib.Seq.{drop-drop, drop-at}
 use Rattle.tree.specs.Trees.{Trees, nil, tree, part, nodes, siblings}
 use Rattle.tree.specs.Materialise.{within}
 use Rattle.tree.specs.Cells.{absolute, packed, unless-none}
-use Rattle.tree.proofs.Well.{Parts, Sound}
 use Rattle.tree.proofs.WellLaws.{well-≤}
 use Rattle.rules.proofs.Keeping.{Keeps, none-broken, child-tree, first-part, end-tree, end-part}
 use Rattle.rules.proofs.Grown.{Only}
 use Rattle.rules.proofs.Listed.{listed, chain-listed, no-part}
 use Rattle.rules.proofs.CellsKept.{due, Apart, apart-less, apart-due, upper, cell-of-tree, cell-of-part, tree-kind, tree-kept, part-cell-kept}
+use Rattle.tree.specs.Well.{Parts, Sound}
 
 module _ (T : ℕ) (types : T ≤ 65536) (parts : Bool) (ws : List ℕ) (n S hi : ℕ) (fits : S + hi ≤ 4294967295) where
   pub words-split : (w : ℕ) (xs ys : List ℕ) → drop w ws ≡ xs ++ ys → drop (w + length xs) ws ≡ ys

@@ -10,8 +10,9 @@ use lib.Dec.{leb}
 use lib.ListN.{length, getD, set, length-set}
 use lib.Seq.{getD-set-same, getD-set-other}
 use Rattle.words.specs.Words.{id-of}
-use Rattle.cursor.proofs.Spelled.{skips, skips-last, skips-up}
+use Rattle.cursor.proofs.Spelled.{skips-last, skips-up}
 use Rattle.scan.specs.Counted.{Counted, Counting, Rising}
+use Rattle.cursor.specs.Spells.{skips}
 
 pub skip-repeat : (F i : ℕ) → F ≤ i → _≡_ {A = ℕ} 4 (cond (leb F i) 4 0)
 skip-repeat F i h = rw (le-leb F i h)

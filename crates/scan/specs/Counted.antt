@@ -4,7 +4,7 @@ use mathlib.Core.Path.{_≡_}
 use mathlib.Core.List.{List}
 use Prim.Native.Nat.{ℕ, _+_, _-_, _*_, _≤_, _<_}
 use lib.ListN.{length, getD}
-use Rattle.cursor.proofs.Spelled.{skips}
+use Rattle.cursor.specs.Spells.{skips}
 
 -- word k holds the words of the repeat records among the first k, up to k = n
 pub record Counted (F : ℕ) (w l : List ℕ) (n : ℕ) : Type 0 where

@@ -1,3 +1,4 @@
+// Internal, for the build.
 // The scan for a run of sibling spans that packs into one part. Counts of the repeat records before each place give a run's
 // words at once, and a memo of the walk lets the next scan under the same parent go on where this one ended.
 ghost use mathlib.Core.Path.{_≡_};

@@ -1,4 +1,4 @@
--- Trees held in the words of a store.
+-- Trees held in the words of a store. Only internal functions cite these.
 use mathlib.Core.Path.{_≡_}
 use mathlib.Core.List.{List, [], _∷_}
 use mathlib.Core.Bool.{cond}

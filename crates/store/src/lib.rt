@@ -1,3 +1,4 @@
+// Internal, for the build and the balance call.
 // A store of trees in the work slice. A node is written once and never changed, so what its address denotes stays true while
 // the store grows; one pass writes a list of trees out as preorder cells and packed words.
 ghost use mathlib.Core.Path.{_≡_};

@@ -11,7 +11,6 @@ use Rattle.tree.specs.Groups.{Gathered, gather, finish}
 use Rattle.tree.specs.Build.{walk}
 use Rattle.tree.proofs.WellLaws.{gathers-down}
 use Rattle.tree.proofs.WellBuild.{gathers-tree}
-use Rattle.tree.proofs.Well.{Parts}
 use Rattle.store.specs.Store.{Same}
 use Rattle.store.proofs.Frame.{same-less, frame}
 use Rattle.cursor.proofs.Spelled.{spells-none}
@@ -25,6 +24,7 @@ use Rattle.take.specs.declared.State.{State}
 use Rattle.take.proofs.Levels.{frames-stay, counted-stays}
 use Rattle.take.proofs.Steps.{frames-below}
 use Rattle.take.proofs.Opening.{deep-more, owed-more, settled-more}
+use Rattle.tree.specs.Well.{Parts}
 
 walk-none : (F b d : ℕ) (own : Option ℕ) (g : Gathered) → walk F b Items.nil d 0 own g ≡ g
 unfolding walk

@@ -17,7 +17,6 @@ use Rattle.tree.proofs.ItemLaws.{sorted-flattened}
 use Rattle.tree.proofs.ShortLaws.{room-none}
 use Rattle.tree.proofs.WellLaws.{gathers-fresh}
 use Rattle.tree.proofs.WellBuild.{gathers-tree, gathers-flat}
-use Rattle.tree.proofs.Well.{Parts}
 use Rattle.store.specs.Store.{Same}
 use Rattle.store.proofs.Frame.{same-less, frame}
 use Rattle.balance.specs.Ready.{HoldsGathered}
@@ -37,6 +36,7 @@ use Rattle.take.specs.declared.State.{State}
 use Rattle.take.proofs.Levels.{same-then}
 use Rattle.take.proofs.Steps.{going-on}
 use Rattle.take.proofs.Opening.{walk-deep}
+use Rattle.tree.specs.Well.{Parts}
 
 -- no group is made where there is no repeat tree
 flat-plain : (b : ℕ) (rs : List Record) (inside : Bool) (held : List Record) (stop : ℕ) (g : Gathered) → g .groups ≡ nil → (flat b none rs inside held stop g) .groups ≡ nil
@@ -123,7 +123,7 @@ module _ (F T b : ℕ) (w l : List ℕ) (whole : Gathered) (s : State) (go : Goi
       used : rtop + 24 * due (repeats F i) inner + s .low ≤ rlow + top + 40 * records kids
       used = omega (arith, taken .used readied, due-fresh (repeats F i) e, spans)
 
-      sound : Rattle.tree.proofs.WellLaws.Gathers T (Parts T) a e inner
+      sound : Rattle.tree.specs.Well.Gathers T (Parts T) a e inner
       sound =
           gathers-flat T (go .types) b (go .bound) (repeats F i) (flattened kids []) false [] 0 (fresh e) a e e e
           (sorted-flattened F T kids a a e [] (standing .fits .inner) (le-refl a)) (le-refl e) (room-none b 0) (gathers-fresh T (Parts T) e)

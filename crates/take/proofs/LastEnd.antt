@@ -16,10 +16,11 @@ use Rattle.tree.specs.Balance.{same-type, lone, is-tree, joined, balance}
 use Rattle.tree.specs.Groups.{Gathered, fresh, gather, rest-closed, finish}
 use Rattle.tree.specs.Flat.{too-deep, flattened, flat}
 use Rattle.tree.specs.Build.{walk, first-level}
-use Rattle.tree.proofs.ItemLaws.{Fits, leftmost-≤, fits-items, own-none}
+use Rattle.tree.proofs.ItemLaws.{leftmost-≤, fits-items, own-none}
 use Rattle.tree.proofs.ListingLaws.{⊕-nil}
 use Rattle.cursor.specs.Spells.{Marked}
 use Rattle.cursor.proofs.Start.{marked-items}
+use Rattle.tree.specs.Ordered.{Fits}
 
 -- siblings after others
 last-⊕ : (d : ℕ) (ts us : Trees) → last-end d (ts ⊕ us) ≡ last-end (last-end d ts) us

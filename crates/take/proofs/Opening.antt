@@ -15,7 +15,6 @@ use Rattle.tree.specs.Groups.{Gathered, fresh, gather, finish}
 use Rattle.tree.specs.Flat.{too-deep, flattened, flat}
 use Rattle.tree.specs.Build.{walk}
 use Rattle.tree.proofs.WellLaws.{gathers-fresh}
-use Rattle.tree.proofs.Well.{Parts}
 use Rattle.store.specs.Store.{Same}
 use Rattle.store.proofs.Frame.{same-put}
 use Rattle.store.proofs.Puts.{put-in, put-before, put-length}
@@ -31,6 +30,7 @@ use Rattle.take.specs.Steps.{Opens, Opened}
 use Rattle.take.specs.declared.Node.{Node}
 use Rattle.take.specs.declared.State.{State}
 use Rattle.take.proofs.Levels.{level-stays, frames-stay, counted-stays}
+use Rattle.tree.specs.Well.{Parts}
 
 module _ (F b i s e : ℕ) (kids rest : Items) (d : ℕ) (own : Option ℕ) (g : Gathered) (unpacked : run-from F b own i s e kids rest ≡ none) where
   -- what the walk gives behind a record that becomes a tree

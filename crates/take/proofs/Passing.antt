@@ -9,9 +9,8 @@ use lib.ListN.{length, getD}
 use Rattle.tree.specs.Items.{Items, mark, same}
 use Rattle.tree.specs.Groups.{Gathered, pass}
 use Rattle.tree.specs.Build.{walk}
-use Rattle.tree.proofs.FlatLaws.{floor, floor-≤}
+use Rattle.tree.proofs.FlatLaws.{floor-≤}
 use Rattle.tree.proofs.WellLaws.{gathers-down, gathers-pass}
-use Rattle.tree.proofs.Well.{Parts}
 use Rattle.words.specs.Words.{id-of, end-of}
 use Rattle.store.specs.Store.{Readable}
 use Rattle.store.proofs.Frame.{same-less, readable}
@@ -24,6 +23,8 @@ use Rattle.take.specs.Going.{deep, own-under, Level, Going}
 use Rattle.take.specs.Steps.{Passes, Passed}
 use Rattle.take.specs.declared.State.{State}
 use Rattle.take.proofs.Steps.{going-on, own-item}
+use Rattle.tree.specs.Ordered.{floor}
+use Rattle.tree.specs.Well.{Parts}
 
 walk-mark : (F b i s e n : ℕ) (rest : Items) (d : ℕ) (own : Option ℕ) (g : Gathered) → walk F b rest d 0 own (pass b i e g) ≡ walk F b (mark i s e n rest) d 0 own g
 unfolding walk

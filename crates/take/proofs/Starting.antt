@@ -9,7 +9,6 @@ use lib.ListN.{length}
 use Rattle.words.specs.Words.{id-of, start-of, end-of, last-of}
 use Rattle.tree.specs.Items.{Items, span, records, first, leftmost}
 use Rattle.tree.specs.Pack.{words, run-from, pack}
-use Rattle.tree.proofs.ItemLaws.{Fits}
 use Rattle.tree.proofs.RecordCounts.{words-records}
 use Rattle.store.proofs.Frame.{readable, frame, same-less}
 use Rattle.cursor.proofs.Spelled.{spells-count}
@@ -32,6 +31,7 @@ use Rattle.take.specs.declared.PendingNode.{PendingNode}
 use Rattle.take.specs.declared.State.{State}
 use Rattle.take.proofs.Steps.{Other-item, other-item}
 use Rattle.take.proofs.Packing.{going-packed, records-run}
+use Rattle.tree.specs.Ordered.{Fits}
 
 -- what an answer holds
 part-of : Part → Taken → Part

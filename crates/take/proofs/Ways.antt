@@ -17,7 +17,6 @@ use Rattle.tree.proofs.ItemLaws.{fits-items, own-none}
 use Rattle.tree.proofs.KeptLaws.{ends-fit}
 use Rattle.tree.proofs.ListingLaws.{⊕-nil}
 use Rattle.tree.proofs.WellLaws.{gathers-fresh}
-use Rattle.tree.proofs.Well.{Parts}
 use Rattle.cursor.specs.Spells.{Stands}
 use Rattle.cursor.proofs.Spelled.{spells-none}
 use Rattle.cursor.proofs.Start.{stands-accepted}
@@ -29,6 +28,7 @@ use Rattle.take.specs.Going.{Outer, deep, own-under, settled, owed, Goin
 use Rattle.take.specs.Loop.{all-gathered, Taken-all}
 use Rattle.take.specs.declared.State.{State}
 use Rattle.take.proofs.Deep.{fresh-holds}
+use Rattle.tree.specs.Well.{Parts}
 
 none-owed : owed [] ≡ 0
 unfolding owed

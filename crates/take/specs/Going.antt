@@ -10,9 +10,6 @@ use Rattle.tree.specs.Trees.{nil, _⊕_}
 use Rattle.tree.specs.Items.{Items, same, repeats}
 use Rattle.tree.specs.Groups.{Gathered, gather, finish}
 use Rattle.tree.specs.Build.{walk}
-use Rattle.tree.proofs.ItemLaws.{Fits}
-use Rattle.tree.proofs.WellLaws.{Gathers}
-use Rattle.tree.proofs.Well.{Parts}
 use Rattle.cursor.specs.Spells.{Stands}
 use Rattle.balance.specs.Ready.{HoldsGathered}
 use Rattle.gathering.specs.Gathering.{due}
@@ -21,6 +18,8 @@ use Rattle.scan.specs.Counted.{Counted}
 use Rattle.scan.specs.declared.Memo.{Memo}
 use Rattle.take.specs.declared.Frame.{Frame}
 use Rattle.take.specs.declared.State.{State}
+use Rattle.tree.specs.Ordered.{Fits}
+use Rattle.tree.specs.Well.{Gathers, Parts}
 
 -- A tree that is open around the present one: its id and range, what its children stand under, those still to be read, and what it
 -- has gathered.

@@ -1,3 +1,4 @@
+// Internal.
 // What the programs that answer line by line share: the input, numbers out of lines of text, the output.
 ghost use mathlib.Core.Path.{_≡_};
 ghost use Prim.Native.Nat.{_+_, _≤_};

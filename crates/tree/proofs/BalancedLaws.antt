@@ -23,9 +23,9 @@ use Rattle.tree.proofs.FuelLaws.{Group, Groups, groups-small, total-kid
 use Rattle.tree.proofs.SizeLaws.{two-groups, some-group, size, one, size-one, size-divide}
 use Rattle.tree.proofs.CellLaws.{shift, shift-⊕, shift-zero}
 use Rattle.tree.proofs.WordLaws.{packed-⊕}
-use Rattle.tree.proofs.Well.{Parts, Sound}
 use Rattle.tree.proofs.WellLaws.{well-divide}
 use Rattle.tree.proofs.KeptLaws.{Kept, kept-read, kept-lines}
+use Rattle.tree.specs.Well.{Parts, Sound}
 
 -- some siblings stay some siblings
 siblings-⊕ : (ts us : Trees) → siblings (ts ⊕ us) ≡ siblings ts + siblings us

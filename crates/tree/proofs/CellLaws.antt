@@ -12,7 +12,7 @@ use Rattle.tree.specs.Trees.{Trees, nil, tree, part, _⊕_, nodes, sibli
 use Rattle.tree.specs.Materialise.{within, beyond, unpack, materialise}
 use Rattle.tree.specs.Cells.{cell-width, cell, relative, absolute, packed, kind, id-word, cells, leading, following, cell-tree, decode-from, decode, tree-cells}
 use Rattle.tree.proofs.ListingLaws.{⊕-nil}
-use Rattle.tree.proofs.Well.{Well, Plain}
+use Rattle.tree.specs.Well.{Well, Plain}
 
 leading-zero : (us : Trees) → leading us 0 ≡ nil
 unfolding leading

@@ -21,7 +21,8 @@ use Rattle.tree.specs.Materialise.{materialise}
 use Rattle.tree.proofs.Reading.{after}
 use Rattle.tree.proofs.RecordCounts.{records-items, records-split, length-flattened, length-hold, length-flat-words, run-short}
 use Rattle.tree.proofs.SizeLaws.{size, one, quarter, size-one, nodes-materialise, size-⊕, size-balance}
-use Rattle.tree.proofs.OwnLaws.{own-total, own-total-⊕, total-group, total-rest-closed, own-finish, Owned, owned-items}
+use Rattle.tree.proofs.OwnLaws.{own-total-⊕, total-group, total-rest-closed, own-finish, Owned, owned-items}
+use Rattle.tree.specs.Well.{own-total}
 
 module _ (c : List ℕ → ℕ) (cheap : (ws : List ℕ) (n : ℕ) → 1 ≤ n → length ws ≤ 4 * n → c ws ≤ n) where
   module _ (t : Option ℕ) where

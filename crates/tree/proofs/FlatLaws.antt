@@ -18,10 +18,7 @@ use Rattle.tree.specs.Flat.{Record, rec, flat-words, held-end, flat-part
 use Rattle.tree.proofs.ListingLaws.{view, view-nil, view-tree, view-part}
 use Rattle.tree.proofs.PackLaws.{line-repeat, within-zero, beyond-zero}
 use Rattle.tree.proofs.GatherLaws.{gview, gview-gather, gview-pass}
-
--- where records before this one end: at its start, or at its end where others may stand in it
-unfoldable pub floor : (n s e : ℕ) → ℕ
-floor n s e = elim (leb n 4) [ true ↦ s | false ↦ e ]
+use Rattle.tree.specs.Ordered.{floor, Sorted}
 
 pub floor-≤ : (n s e : ℕ) → s ≤ e → floor n s e ≤ e
 unfolding floor
@@ -38,11 +35,6 @@ floor-leaf n s e h = rw (h, floor)
 pub floor-big : (n s e : ℕ) → leb n 4 ≡ false → floor n s e ≡ e
 unfolding floor
 floor-big n s e h = rw (h, floor)
-
--- Records from the last one back, in order, from `lo` to `hi`, with ids below T.
-abbrev pub Sorted : (T lo hi : ℕ) → List Record → Type 0
-Sorted T lo hi [] = lo ≤ hi
-Sorted T lo hi (rec i s e n ∷ rs) = record { known : i < T; ordered : s ≤ e; ends : e ≤ hi; rest : Sorted T lo (floor n s e) rs }
 
 pub sorted-up : (T lo hi hi′ : ℕ) (rs : List Record) → hi ≤ hi′ → Sorted T lo hi rs → Sorted T lo hi′ rs
 sorted-up T lo hi hi′ [] h so = omega arith

@@ -12,8 +12,9 @@ use Rattle.records.specs.Forest.{Forest, empty, add, count, line, below, readin
 use Rattle.tree.specs.Items.{Items, mark, span, same, repeats, items, records, first, leftmost}
 use Rattle.tree.specs.Flat.{Record, flattened}
 use Rattle.tree.proofs.Reading.{reads, after}
-use Rattle.tree.proofs.PackLaws.{line-repeat, below-repeat, From}
-use Rattle.tree.proofs.FlatLaws.{Sorted, sorted-up, Leaves, Own, floor, floor-≤, floor-leaf, floor-big, back-lines}
+use Rattle.tree.proofs.PackLaws.{line-repeat, below-repeat}
+use Rattle.tree.proofs.FlatLaws.{sorted-up, Leaves, Own, floor-≤, floor-leaf, floor-big, back-lines}
+use Rattle.tree.specs.Ordered.{From, Sorted, floor, Fits}
 
 -- how deep items are nested; a mark counts for one
 unfoldable pub height : Items → ℕ
@@ -33,21 +34,14 @@ no-records empty h = refl
 no-records (add before i s e kids) h = absurd (omega arith)
 
 module _ (F T : ℕ) where
-  -- Items from `lo` to `hi`, in order and nested, with ids below T; marks have repeat ids.
-  abbrev pub Fits : (lo hi : ℕ) → Items → Type 0
-  Fits lo hi Items.nil = lo ≤ hi
-  Fits lo hi (mark i s e n its) =
-      record { known : i < T; repeat : ltb i F ≡ false; ordered : s ≤ e; ends : e ≤ hi; rest : Fits lo (floor n s e) its }
-  Fits lo hi (span i s e kids its) = record { known : i < T; ordered : s ≤ e; ends : e ≤ hi; inner : Fits s e kids; rest : Fits lo s its }
-
-  pub fits-up : (lo hi hi′ : ℕ) (its : Items) → hi ≤ hi′ → Fits lo hi its → Fits lo hi′ its
+  pub fits-up : (lo hi hi′ : ℕ) (its : Items) → hi ≤ hi′ → Fits F T lo hi its → Fits F T lo hi′ its
   fits-up lo hi hi′ Items.nil h f = omega arith
   fits-up lo hi hi′ (mark i s e n rest) h f =
       record { known = f .known; repeat = f .repeat; ordered = f .ordered; ends = omega arith; rest = f .rest }
   fits-up lo hi hi′ (span i s e kids rest) h f =
       record { known = f .known; ordered = f .ordered; ends = omega arith; inner = f .inner; rest = f .rest }
 
-  pub fits-≤ : (lo hi : ℕ) (its : Items) → Fits lo hi its → lo ≤ hi
+  pub fits-≤ : (lo hi : ℕ) (its : Items) → Fits F T lo hi its → lo ≤ hi
   fits-≤ lo hi Items.nil f = f
   fits-≤ lo hi (mark i s e n rest) f = omega (arith, fits-≤ lo (floor n s e) rest (f .rest), floor-≤ n s e (f .ordered))
   fits-≤ lo hi (span i s e kids rest) f = omega (arith, fits-≤ lo s rest (f .rest))
@@ -58,14 +52,14 @@ module _ (F T : ℕ) where
   from-down p q (mark i s e n rest) h f = from-down p q rest h f
   from-down p q (span i s e kids rest) h f = (omega arith, f .1, from-down p q kids h (f .2), from-down p q rest h (f .3))
 
-  pub fits-from : (lo hi : ℕ) (its : Items) → Fits lo hi its → From lo its
+  pub fits-from : (lo hi : ℕ) (its : Items) → Fits F T lo hi its → From lo its
   fits-from lo hi Items.nil f = tt
   fits-from lo hi (mark i s e n rest) f = fits-from lo (floor n s e) rest (f .rest)
   fits-from lo hi (span i s e kids rest) f =
       let low = fits-≤ lo s rest (f .rest) in
       (low, f .ordered, from-down lo s kids low (fits-from s e kids (f .inner)), fits-from lo s rest (f .rest))
 
-  pub leftmost-≤ : (k q lo hi : ℕ) (its : Items) → hi ≤ q → Fits lo hi its → leftmost q (first k its) ≤ q
+  pub leftmost-≤ : (k q lo hi : ℕ) (its : Items) → hi ≤ q → Fits F T lo hi its → leftmost q (first k its) ≤ q
   unfolding leftmost first
   leftmost-≤ zero q lo hi its h f = le-refl q
   leftmost-≤ (suc k) q lo hi Items.nil h f = le-refl q
@@ -73,7 +67,7 @@ module _ (F T : ℕ) where
       leftmost-≤ k q lo (floor n s e) rest (omega (arith, floor-≤ n s e (f .ordered))) (f .rest)
   leftmost-≤ (suc k) q lo hi (span i s e kids rest) h f = omega (arith, leftmost-≤ k s lo s rest (le-refl s) (f .rest))
 
-  pub from-leftmost : (k q lo hi : ℕ) (its : Items) → Fits lo hi its → From (leftmost q (first k its)) (first k its)
+  pub from-leftmost : (k q lo hi : ℕ) (its : Items) → Fits F T lo hi its → From (leftmost q (first k its)) (first k its)
   unfolding leftmost first
   from-leftmost zero q lo hi its f = tt
   from-leftmost (suc k) q lo hi Items.nil f = tt
@@ -83,7 +77,7 @@ module _ (F T : ℕ) where
       (low, f .ordered, from-down _ s kids low (fits-from s e kids (f .inner)), from-leftmost k s lo s rest (f .rest))
 
   -- what is left behind a run ends at its leftmost start
-  pub fits-after : (k q lo hi : ℕ) (its : Items) → hi ≤ q → Fits lo hi its → Fits lo (leftmost q (first k its)) (after k its)
+  pub fits-after : (k q lo hi : ℕ) (its : Items) → hi ≤ q → Fits F T lo hi its → Fits F T lo (leftmost q (first k its)) (after k its)
   unfolding leftmost first after
   fits-after zero q lo hi its h f = fits-up lo hi q its h f
   fits-after (suc k) q lo hi Items.nil h f = omega arith
@@ -92,7 +86,7 @@ module _ (F T : ℕ) where
   fits-after (suc k) q lo hi (span i s e kids rest) h f = fits-after k s lo s rest (le-refl s) (f .rest)
 
   -- records as flat parts take them
-  pub back-lines-flattened : (d : ℕ) (its : Items) → height its ≤ 1 → (lo hi : ℕ) → Fits lo hi its → back-lines F d (flattened its []) ≡ reads F d its
+  pub back-lines-flattened : (d : ℕ) (its : Items) → height its ≤ 1 → (lo hi : ℕ) → Fits F T lo hi its → back-lines F d (flattened its []) ≡ reads F d its
   unfolding height flattened reads back-lines
   back-lines-flattened d Items.nil h lo hi f = refl
   back-lines-flattened d (mark i s e n rest) h lo hi f =
@@ -100,7 +94,7 @@ module _ (F T : ℕ) where
   back-lines-flattened d (span i s e kids rest) h lo hi f =
       rw (no-items kids (omega arith), back-lines-flattened d rest (omega arith) lo s (f .rest), append-nil)
 
-  pub leaves-flattened : (its : Items) → height its ≤ 1 → (lo hi : ℕ) → Fits lo hi its → Leaves F (flattened its [])
+  pub leaves-flattened : (its : Items) → height its ≤ 1 → (lo hi : ℕ) → Fits F T lo hi its → Leaves F (flattened its [])
   unfolding height flattened records
   leaves-flattened Items.nil h lo hi f = tt
   leaves-flattened (mark i s e n rest) h lo hi f =
@@ -115,7 +109,7 @@ module _ (F T : ℕ) where
   leaf-or-not (mark i s e n rest) h = absurd (omega arith)
   leaf-or-not (span i s e kids rest) h = absurd (omega arith)
 
-  pub sorted-flattened : (its : Items) (low lo hi : ℕ) (acc : List Record) → Fits lo hi its → Sorted T low lo acc → Sorted T low hi (flattened its acc)
+  pub sorted-flattened : (its : Items) (low lo hi : ℕ) (acc : List Record) → Fits F T lo hi its → Sorted T low lo acc → Sorted T low hi (flattened its acc)
   unfolding flattened
   sorted-flattened Items.nil low lo hi acc f so = sorted-up T low lo hi acc f so
   sorted-flattened (mark i s e n rest) low lo hi acc f so =

@@ -20,10 +20,10 @@ use Rattle.tree.specs.Cells.{cell-width, relative, absolute, packed, cel
 use Rattle.tree.specs.Calls.{written, build-cells, materialise-cells, list-cells}
 use Rattle.tree.proofs.ListingLaws.{view}
 use Rattle.tree.proofs.CellLaws.{length-tree-cells, decode-all, packed-relative, shift, nodes-shift, unpack-shift, absolute-shift, materialise-shift, absolute-relative, absolute-relative-top, shift-zero, packed-shift, packed-plain}
-use Rattle.tree.proofs.Well.{Plain, Parts, Sound, spelled}
 use Rattle.tree.proofs.WellLaws.{well-≤}
 use Rattle.tree.proofs.WellBuild.{plain-materialise, sound-first-level}
 use Rattle.tree.proofs.BuiltReading.{tree-lines}
+use Rattle.tree.specs.Well.{Plain, Parts, Sound, spelled}
 
 -- Cells and words of a tree that keeps the cell rules, with absolute ends up to hi counted from 0.
 pub record Kept (T hi : ℕ) (cs ws : List ℕ) : Type 0 where

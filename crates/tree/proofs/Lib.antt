@@ -9,7 +9,6 @@ pub mod WalkLaws
 pub mod BuiltReading
 pub mod ShortLaws
 pub mod SpellLaws
-pub mod Well
 pub mod WellLaws
 pub mod WellBuild
 pub mod CellLaws

@@ -18,7 +18,7 @@ use Rattle.tree.specs.Listing.{node-line, node-below, listing}
 use Rattle.tree.specs.Cells.{id-word}
 use Rattle.tree.proofs.ListingLaws.{listing-⊕}
 use Rattle.tree.proofs.PartForms.{open-ends}
-use Rattle.tree.proofs.Well.{Plain, Parts, Sound, spelled}
+use Rattle.tree.specs.Well.{Plain, Parts, Sound, spelled}
 
 -- The lines of a packed part that starts at p, from word `off` on, at depth d: `around` are the end indices of the
 -- ordinary records met, the latest first; those past the offset hold the record at hand.

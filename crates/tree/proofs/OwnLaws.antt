@@ -15,25 +15,20 @@ use Rattle.tree.specs.Balance.{same-type, all-of, total, lone, is-tree, 
 use Rattle.tree.specs.Groups.{Gathered, close, rest-closed, finish}
 use Rattle.tree.proofs.BalanceLaws.{total-pos-tree, total-pos-part}
 use Rattle.tree.proofs.FuelLaws.{total-⊕}
+use Rattle.tree.specs.Well.{own-total}
 
 module _ (t : Option ℕ) where
-  -- the sizes of the siblings that are trees of the type t
-  unfoldable pub own-total : Trees → ℕ
-  own-total nil = 0
-  own-total (tree u s l kids rest) = elim (same-type t u) [ true ↦ total t (tree u s l kids nil) | false ↦ 0 ] + own-total rest
-  own-total (part s l ws rest) = own-total rest
-
-  own-nil : total t nil ≤ own-total nil
+  own-nil : total t nil ≤ own-total t nil
   unfolding total own-total
   own-nil = le-refl 0
 
-  pub own-total-⊕ : (ts us : Trees) → own-total (ts ⊕ us) ≡ own-total ts + own-total us
+  pub own-total-⊕ : (ts us : Trees) → own-total t (ts ⊕ us) ≡ own-total t ts + own-total t us
   unfolding own-total _⊕_
   own-total-⊕ nil us = omega arith
   own-total-⊕ (tree u s l kids rest) us = omega (arith, own-total-⊕ rest us)
   own-total-⊕ (part s l ws rest) us = own-total-⊕ rest us
 
-  all-own : (ts : Trees) → So (all-of t ts) → total t ts ≤ own-total ts
+  all-own : (ts : Trees) → So (all-of t ts) → total t ts ≤ own-total t ts
   unfolding own-total all-of _⊕_
   all-own nil h = own-nil
   all-own (tree u s l kids rest) h =
@@ -42,18 +37,18 @@ module _ (t : Option ℕ) where
       c : Trees
       c = tree u s l kids nil
 
-      go : (x : Bool) → So (x && all-of t rest) → (So (all-of t rest) → total t rest ≤ own-total rest)
-          → total t c + total t rest ≤ elim x [ true ↦ total t c | false ↦ 0 ] + own-total rest
+      go : (x : Bool) → So (x && all-of t rest) → (So (all-of t rest) → total t rest ≤ own-total t rest)
+          → total t c + total t rest ≤ elim x [ true ↦ total t c | false ↦ 0 ] + own-total t rest
       go true a ih = omega (arith, ih a)
       go false a ih = absurd a
   all-own (part s l ws rest) h = absurd h
 
   -- a group over the children ts
-  pub total-group : (u : Option ℕ) (s l : ℕ) (ts rest : Trees) → total t (tree u s l ts rest) ≤ suc (own-total ts + total t rest)
+  pub total-group : (u : Option ℕ) (s l : ℕ) (ts rest : Trees) → total t (tree u s l ts rest) ≤ suc (own-total t ts + total t rest)
   unfolding total
   total-group u s l ts rest = go (same-type t u) (all-of t ts) refl
     where
-      go : (x y : Bool) → all-of t ts ≡ y → elim (x && y) [ true ↦ suc (total t ts) | false ↦ 1 ] + total t rest ≤ suc (own-total ts + total t rest)
+      go : (x y : Bool) → all-of t ts ≡ y → elim (x && y) [ true ↦ suc (total t ts) | false ↦ 1 ] + total t rest ≤ suc (own-total t ts + total t rest)
       go true true e = omega (arith, all-own ts (subst So (sym e) tt))
       go true false e = omega arith
       go false y e = omega arith

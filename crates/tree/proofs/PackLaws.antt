@@ -16,6 +16,7 @@ use Rattle.tree.specs.Items.{Items, mark, span}
 use Rattle.tree.specs.Pack.{width, words, entry, pack}
 use Rattle.tree.proofs.Reading.{reads}
 use Rattle.tree.proofs.ListingLaws.{⊕-nil, ⊕-assoc, listing-⊕}
+use Rattle.tree.specs.Ordered.{From}
 
 pub nodes-⊕ : (ts us : Trees) → nodes (ts ⊕ us) ≡ nodes ts + nodes us
 unfolding _⊕_ nodes
@@ -105,12 +106,6 @@ module _ (F p : ℕ) where
       let one = unpack-entry at i s e (words F kids) (inner ++ v) (spliced F p kids) (unpack p behind v)
       (ltb i F) refl (spliced-words F p kids) (unpack-pack kids (at + width F i) v) in
       rw (append-assoc (pack F p off rest) (own ++ inner) v, unpack-pack rest off ((own ++ inner) ++ v), append-assoc own inner v, one, ⊕-assoc, n)
-
--- Starts are at or after p, and ends after starts.
-abbrev pub From : (p : ℕ) → Items → Type 0
-From p Items.nil = Unit {0}
-From p (mark i s e n rest) = From p rest
-From p (span i s e kids rest) = (p ≤ s) × (s ≤ e) × From p kids × From p rest
 
 -- a repeat record has no line, and its children keep the depth
 pub line-repeat : (F d i s e : ℕ) → ltb i F ≡ false → line F d i s e ≡ []

@@ -14,8 +14,8 @@ use Rattle.tree.specs.Trees.{Trees, nil, tree, part, nodes}
 use Rattle.tree.specs.Materialise.{unpack}
 use Rattle.tree.specs.Cells.{id-word}
 use Rattle.tree.proofs.PartForms.{Fault, open-ends, past-enclosing, entry-fault, entries-fault, part-fault, part-accepted, chosen, entries-step}
-use Rattle.tree.proofs.Well.{Plain, Parts, spelled}
 use Rattle.tree.proofs.MaterialiseLaws.{Passed, Past, past-down, open-passed, open-past, Typed, typed-unpack}
+use Rattle.tree.specs.Well.{Plain, Parts, spelled}
 
 length-spelled : (p off : ℕ) (us : Trees) → Typed us → length (spelled p off us) ≡ 4 * nodes us
 unfolding spelled nodes

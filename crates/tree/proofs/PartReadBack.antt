@@ -19,10 +19,10 @@ use Rattle.tree.specs.Materialise.{within, beyond, unpack}
 use Rattle.tree.specs.Cells.{id-word}
 use Rattle.tree.proofs.PackLaws.{within-zero}
 use Rattle.tree.proofs.PartForms.{Fault, open-ends, past-enclosing, entry-fault, entries-fault, part-fault, accepted-part, chosen, entries-step, In, Rising, rising-in, opened-rising, in-opened, rising-up}
-use Rattle.tree.proofs.Well.{Plain, Short, Parts, spelled}
 use Rattle.tree.proofs.SpellLaws.{NoParts, spelled-⊕}
 use Rattle.tree.proofs.MaterialiseLaws.{Typed, typed-within, typed-unpack}
 use Rattle.tree.proofs.PartLaws.{parts-accepted}
+use Rattle.tree.specs.Well.{Plain, Short, Parts, spelled}
 
 -- the first trees hold just n
 abbrev Cuts : Trees → (n : ℕ) → Type 0

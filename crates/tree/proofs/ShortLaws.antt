@@ -13,10 +13,9 @@ use Rattle.records.proofs.ParseLaws.{and-right}
 use Rattle.tree.specs.Items.{Items, mark, span, first, leftmost}
 use Rattle.tree.specs.Pack.{early, long, width, words, stopped, scan, packs, run-from, entry, pack}
 use Rattle.tree.specs.Flat.{full, Record, rec, flat-words, held-end, hold, limit, ends}
-use Rattle.tree.proofs.PackLaws.{From}
-use Rattle.tree.proofs.FlatLaws.{floor, floor-≤, Held}
-use Rattle.tree.proofs.ItemLaws.{Fits}
-use Rattle.tree.proofs.Well.{Short}
+use Rattle.tree.proofs.FlatLaws.{floor-≤, Held}
+use Rattle.tree.specs.Ordered.{From, floor, Fits, Spread, Room}
+use Rattle.tree.specs.Well.{Short}
 
 short-++ : (us ws : List ℕ) → Short us → Short ws → Short (us ++ ws)
 short-++ [] ws a b = b
@@ -150,17 +149,6 @@ short-flat T p off lo hi [] t h n a = tt
 short-flat T p off lo hi (rec i s e m ∷ rs) t h n a =
     let below = held-≤ T e hi rs (a .rest) in
     (omega (arith, a .known), (omega (arith, a .ordered), (omega arith, (omega arith, short-flat T p (off + 4) e hi rs t h (omega arith) (a .rest)))))
-
--- The held records are at most 16,383, and where there are several the first one ends at most b after the last one's
--- start.
-abbrev pub Spread : (b : ℕ) (held : List Record) (stop : ℕ) → Type 0
-Spread b [] stop = Unit {0}
-Spread b (rec i s e n ∷ []) stop = stop ≡ e - b
-Spread b (rec i s e n ∷ r ∷ rs) stop = (stop ≡ held-end e (r ∷ rs) - b) × (held-end e (r ∷ rs) ≤ s + b)
-
-pub record Room (b : ℕ) (held : List Record) (stop : ℕ) : Type 0 where
-  pub spread : Spread b held stop
-  pub few : length held ≤ 16383
 
 pub room-none : (b stop : ℕ) → Room b [] stop
 room-none b stop = record { spread = tt; few = omega arith }

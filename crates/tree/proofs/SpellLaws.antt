@@ -13,9 +13,10 @@ use Rattle.tree.specs.Items.{Items, mark, span}
 use Rattle.tree.specs.Pack.{width, words, entry, pack}
 use Rattle.tree.specs.Flat.{Record, rec, flat-words}
 use Rattle.tree.specs.Cells.{id-word}
-use Rattle.tree.proofs.PackLaws.{From, grown, spliced, spliced-words, unpack-run, within-zero, beyond-zero}
+use Rattle.tree.proofs.PackLaws.{grown, spliced, spliced-words, unpack-run, within-zero, beyond-zero}
 use Rattle.tree.proofs.FlatLaws.{Held}
-use Rattle.tree.proofs.Well.{spelled}
+use Rattle.tree.specs.Ordered.{From}
+use Rattle.tree.specs.Well.{spelled}
 
 -- trees without parts
 abbrev pub NoParts : Trees → Type 0

@@ -18,10 +18,11 @@ use Rattle.tree.specs.Flat.{too-deep, flat, flattened}
 use Rattle.tree.specs.Build.{walk}
 use Rattle.tree.proofs.Reading.{reads, after}
 use Rattle.tree.proofs.ListingLaws.{view, view-⊕, view-part}
-use Rattle.tree.proofs.PackLaws.{From, listing-pack}
+use Rattle.tree.proofs.PackLaws.{listing-pack}
 use Rattle.tree.proofs.GatherLaws.{gview, gview-fresh, gview-gather, gview-pass, view-finish}
-use Rattle.tree.proofs.FlatLaws.{floor, held-lines, gview-flat}
-use Rattle.tree.proofs.ItemLaws.{height, leaves-flattened, Fits, from-down, fits-from, leftmost-≤, from-leftmost, reads-split, back-lines-flattened, sorted-flattened, own-repeats}
+use Rattle.tree.proofs.FlatLaws.{held-lines, gview-flat}
+use Rattle.tree.proofs.ItemLaws.{height, leaves-flattened, from-down, fits-from, leftmost-≤, from-leftmost, reads-split, back-lines-flattened, sorted-flattened, own-repeats}
+use Rattle.tree.specs.Ordered.{From, floor, Fits}
 
 -- a tree that is too deep
 deep : (d : ℕ) → too-deep d ≡ true → 2500 < d

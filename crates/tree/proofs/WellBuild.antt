@@ -17,14 +17,15 @@ use Rattle.tree.specs.Groups.{Gathered, fresh, gather, pass, finish}
 use Rattle.tree.specs.Flat.{too-deep, Record, rec, flattened, flat-words, held-end, flat-part, hold, limit, ends, flat}
 use Rattle.tree.specs.Build.{walk, first-level}
 use Rattle.tree.proofs.Reading.{after}
-use Rattle.tree.proofs.PackLaws.{From, grown, spliced, unpack-run, within-zero, beyond-zero}
-use Rattle.tree.proofs.FlatLaws.{floor, floor-≤, Sorted, Held, hold-held}
-use Rattle.tree.proofs.ItemLaws.{Fits, fits-≤, from-down, fits-from, from-leftmost, leftmost-≤, fits-after, sorted-flattened, own-none, fits-items}
-use Rattle.tree.proofs.Well.{Plain, Parts, Sound}
-use Rattle.tree.proofs.WellLaws.{well-down, well-up, well-⊕, Gathers, gathers-fresh, gathers-down, gathers-gather, gathers-pass, well-finish}
-use Rattle.tree.proofs.ShortLaws.{Packs, run-packs, Under, under-up, fits-under, under-first, short-pack, short-flat, Room, room-none, room-first, room-hold}
+use Rattle.tree.proofs.PackLaws.{grown, spliced, unpack-run, within-zero, beyond-zero}
+use Rattle.tree.proofs.FlatLaws.{floor-≤, Held, hold-held}
+use Rattle.tree.proofs.ItemLaws.{fits-≤, from-down, fits-from, from-leftmost, leftmost-≤, fits-after, sorted-flattened, own-none, fits-items}
+use Rattle.tree.proofs.WellLaws.{well-down, well-up, well-⊕, gathers-fresh, gathers-down, gathers-gather, gathers-pass, well-finish}
+use Rattle.tree.proofs.ShortLaws.{Packs, run-packs, Under, under-up, fits-under, under-first, short-pack, short-flat, room-none, room-first, room-hold}
 use Rattle.tree.proofs.SpellLaws.{spelled-run, spelled-flat}
 use lib.ListN.{length}
+use Rattle.tree.specs.Ordered.{From, floor, Sorted, Fits, Room}
+use Rattle.tree.specs.Well.{Plain, Parts, Sound, Gathers}
 
 module _ (T : ℕ) (types : T ≤ 65536) where
   abbrev None : ℕ → ℕ → List ℕ → Type 0

@@ -11,7 +11,7 @@ use Rattle.tree.specs.Trees.{Trees, nil, tree, part, _⊕_, kids-of, fir
 use Rattle.tree.specs.Balance.{total, share, groups, lone, is-tree, joined, placed, each, divide, balance}
 use Rattle.tree.specs.Groups.{Gathered, fresh, gather, close, pass, rest-closed, finish}
 use Rattle.tree.proofs.BalanceLaws.{each-groups}
-use Rattle.tree.proofs.Well.{Known, Well}
+use Rattle.tree.specs.Well.{Known, Well, Gathers}
 
 module _ (T : ℕ) (Inside : ℕ → ℕ → List ℕ → Type 0) where
   abbrev pub W : (lo hi : ℕ) → Trees → Type 0
@@ -141,25 +141,20 @@ module _ (T : ℕ) (Inside : ℕ → ℕ → List ℕ → Type 0) where
     unfolding balance
     well-balance s e ts w = well-joined s s e e _ (le-refl s) (le-refl e) (well-divide (suc (total t ts)) (share (total t ts)) s e ts w)
 
-  -- What is gathered stands from `lo` to `hi`.
-  pub record Gathers (lo hi : ℕ) (g : Gathered) : Type 0 where
-    pub loose : W lo (g .edge) (g .loose)
-    pub groups : W (g .edge) hi (g .groups)
-
-  pub gathers-fresh : (e : ℕ) → Gathers e e (fresh e)
+  pub gathers-fresh : (e : ℕ) → Gathers T Inside e e (fresh e)
   unfolding fresh
   gathers-fresh e = record { loose = le-refl e; groups = le-refl e }
 
-  pub gathers-down : (lo lo′ hi : ℕ) (g : Gathered) → lo′ ≤ lo → Gathers lo hi g → Gathers lo′ hi g
+  pub gathers-down : (lo lo′ hi : ℕ) (g : Gathered) → lo′ ≤ lo → Gathers T Inside lo hi g → Gathers T Inside lo′ hi g
   gathers-down lo lo′ hi g h w = record { loose = well-down lo lo′ (g .edge) (g .loose) h (w .loose); groups = w .groups }
 
   -- a child in front
   pub gathers-gather : (lo lo′ hi : ℕ) (f : Trees → Trees) (g : Gathered) → ((e : ℕ) (ts : Trees) → W lo e ts → W lo′ e (f ts))
-      → Gathers lo hi g → Gathers lo′ hi (gather f g)
+      → Gathers T Inside lo hi g → Gathers T Inside lo′ hi (gather f g)
   unfolding gather
   gathers-gather lo lo′ hi f g h w = record { loose = h (g .edge) (g .loose) (w .loose); groups = w .groups }
 
-  pub gathers-close : (i s lo hi : ℕ) (g : Gathered) → i < T → s ≤ lo → Gathers lo hi g → Gathers s hi (close i s g)
+  pub gathers-close : (i s lo hi : ℕ) (g : Gathered) → i < T → s ≤ lo → Gathers T Inside lo hi g → Gathers T Inside s hi (close i s g)
   unfolding close
   gathers-close i s lo hi g k h w =
       let low = well-≤ lo (g .edge) (g .loose) (w .loose) in
@@ -169,15 +164,15 @@ module _ (T : ℕ) (Inside : ℕ → ℕ → List ℕ → Type 0) where
         groups = record { known = k; starts = le-refl s; inner = rw end (well-down lo s (g .edge) (g .loose) h (w .loose)); rest = rw end (w .groups) };
       }
 
-  pub gathers-pass : (b i e lo hi : ℕ) (g : Gathered) → i < T → e ≤ lo → Gathers lo hi g → Gathers e hi (pass b i e g)
+  pub gathers-pass : (b i e lo hi : ℕ) (g : Gathered) → i < T → e ≤ lo → Gathers T Inside lo hi g → Gathers T Inside e hi (pass b i e g)
   unfolding pass
   gathers-pass b i e lo hi g k h w = go (leb (e + b) (g .edge))
     where
-      go : (x : Bool) → Gathers e hi (elim x [ true ↦ close i e g | false ↦ g ])
+      go : (x : Bool) → Gathers T Inside e hi (elim x [ true ↦ close i e g | false ↦ g ])
       go true = gathers-close i e lo hi g k h w
       go false = gathers-down lo e hi g h w
 
-  pub well-rest-closed : (i s e : ℕ) (g : Gathered) → i < T → Gathers s e g → W s e ((rest-closed i s g) .groups)
+  pub well-rest-closed : (i s e : ℕ) (g : Gathered) → i < T → Gathers T Inside s e g → W s e ((rest-closed i s g) .groups)
   unfolding rest-closed close
   well-rest-closed i s e g k w = go (is-nil (g .loose))
     where
@@ -186,7 +181,7 @@ module _ (T : ℕ) (Inside : ℕ → ℕ → List ℕ → Type 0) where
       go false = (gathers-close i s s e g k (le-refl s) w) .groups
 
   -- a finished tree
-  pub well-finish : (F i s e : ℕ) (g : Gathered) → i < T → s ≤ e → Gathers s e g → W s e (finish F i s e g)
+  pub well-finish : (F i s e : ℕ) (g : Gathered) → i < T → s ≤ e → Gathers T Inside s e g → W s e (finish F i s e g)
   unfolding finish
   well-finish F i s e g k h w = go (ltb i F || is-nil (g .groups))
     where

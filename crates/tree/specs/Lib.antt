@@ -10,3 +10,5 @@ pub mod Listing
 pub mod Cells
 pub mod Calls
 pub mod Run
+pub mod Well
+pub mod Ordered

@@ -1,3 +1,4 @@
+// Internal.
 // What every other crate shares: a place that was found or not, words at wider types, and records of four words written.
 ghost use mathlib.Core.Path.{_≡_};
 ghost use mathlib.Core.List.{[], _∷_};

@@ -1,12 +1,15 @@
--- The cell rules that speak of ids, ranges and parts, as a predicate of trees: a definition that only laws cite.
--- Assumes nothing.
+-- Trees in order and nested, as predicates: the cell rules that speak of ids, ranges and parts. Cited by laws and by the contracts of
+-- internal functions alone.
 use mathlib.Core.Path.{_≡_}
 use mathlib.Core.List.{List, [], _∷_, _++_}
+use mathlib.Core.Bool.{true, false}
 use mathlib.Core.Option.{Option, none, some}
 use Prim.Native.Nat.{ℕ, _+_, _-_, _*_, _≤_, _<_}
 use Rattle.tree.specs.Trees.{Trees, nil, tree, part, nodes}
 use Rattle.tree.specs.Materialise.{unpack}
 use Rattle.tree.specs.Cells.{id-word}
+use Rattle.tree.specs.Balance.{same-type, total}
+use Rattle.tree.specs.Groups.{Gathered}
 
 -- a type's id is below T
 abbrev pub Known : (T : ℕ) → Option ℕ → Type 0
@@ -45,3 +48,14 @@ Parts T s l ws = record { whole : spelled s 0 (unpack s 0 ws) ≡ ws; ranges : P
 
 abbrev pub Sound : (T lo hi : ℕ) → Trees → Type 0
 Sound T lo hi ts = Well T (Parts T) lo hi ts
+
+-- what is gathered stands from `lo` to `hi`
+pub record Gathers (T : ℕ) (Inside : ℕ → ℕ → List ℕ → Type 0) (lo hi : ℕ) (g : Gathered) : Type 0 where
+  pub loose : Well T Inside lo (g .edge) (g .loose)
+  pub groups : Well T Inside (g .edge) hi (g .groups)
+
+-- the sizes of the siblings that are trees of the type t
+unfoldable pub own-total : (t : Option ℕ) → Trees → ℕ
+own-total t nil = 0
+own-total t (tree u s l kids rest) = elim (same-type t u) [ true ↦ total t (tree u s l kids nil) | false ↦ 0 ] + own-total t rest
+own-total t (part s l ws rest) = own-total t rest
