@@ -1,34 +1,21 @@
--- Refusal 9 in document 01's words, by counting words: where the records before record i have no fault, 9 is its fault exactly
--- where none of 6 to 8 applies to it and its span begins inside an earlier record's span without covering it whole.
+-- One record and the spans before it: where the records before record i have no fault, no siblings fill its span exactly where
+-- the span begins inside an earlier record's span without covering it whole.
 -- By induction on the siblings from the last one back, and on the forest for the spans inside one.
 -- Assumes nothing.
 use mathlib.Core.Path.{_≡_, refl, sym, ap, _∙_}
 use mathlib.Core.List.{List, [], _∷_, _++_, append-assoc}
-use mathlib.Core.Bool.{Bool, true, false, cond, not, _||_, true≢false}
+use mathlib.Core.Bool.{Bool, true, false, true≢false}
 use mathlib.Core.Logic.{_↔_}
-use Prim.Native.Nat.{ℕ, zero, suc, _+_, _-_, _*_, _%_, _≤_, _<_}
+use Prim.Native.Nat.{ℕ, zero, suc, _+_, _-_, _*_, _≤_, _<_}
 use native.Mathlib.Decide.{decLe, decLt, ℕ-discrete}
 use native.Mathlib.Omega.{arith}
-use lib.Dec.{leb, ltb, eqb}
 use lib.ListN.{length, length-append}
-use Rattle.words.specs.Words.{id-of, start-of, end-of, last-of}
+use Rattle.words.specs.Words.{last-of}
 use Rattle.records.specs.Forest.{Forest, empty, add, count, postfix}
-use Rattle.records.specs.Parse.{descendants}
-use Rattle.records.specs.Check.{fills, own-fault, record-fault}
-use Rattle.records.specs.Taking.{finished, Spelt, fault-at}
-use Rattle.records.proofs.ParseLaws.{own-fine}
+use Rattle.records.specs.Check.{fills}
+use Rattle.records.specs.Nine.{Crosses}
+use Rattle.records.specs.Taking.{finished, Spelt}
 use Rattle.records.proofs.Spelling.{words-of, counted, whole-list, word-at, span, last, Last, fills-stop, fills-step, fills-zero}
-
--- the word at which the span of record q begins: it is the size words ending with its last
-abbrev pub begin-of : List ℕ → ℕ → ℕ
-begin-of ws q = (q + 1) * 4 - last-of ws q
-
--- the span of record i begins inside an earlier record's span without covering it whole
-pub record Crosses (ws : List ℕ) (i : ℕ) : Type 0 where
-  pub other : ℕ
-  pub earlier : other < i
-  pub inside : (begin-of ws other ≤ begin-of ws i) × (begin-of ws i < (other + 1) * 4)
-  pub uncovered : begin-of ws i ≤ begin-of ws other → ⊥
 
 regroup-before : (a b c d e : List ℕ) → (a ++ b) ++ ((c ++ d) ++ e) ≡ (a ++ (b ++ (c ++ d))) ++ e
 regroup-before a b c d e = simp append-assoc
@@ -141,7 +128,7 @@ module _ (ws : List ℕ) (i k : ℕ) (sp : Spelt ws i) (few : k ≤ i) (size : l
         other = x .0;
         earlier = x .1;
         inside = (omega (arith, x .2, s .whole, s .from), omega (arith, x .3));
-        uncovered = λ h. omega (arith, x .2, s .whole, s .from);
+        uncovered = λ h. omega (arith, h .0, x .2, s .whole, s .from);
       }
 
   in-records : Crosses ws i → Crossed ws i (i - k)
@@ -151,55 +138,14 @@ module _ (ws : List ℕ) (i k : ℕ) (sp : Spelt ws i) (few : k ≤ i) (size : l
     where
       in-order : Dec (x .other + 1 - span ws (x .other) < i - k) → Span ws 0 (x .other) → x .other + 1 - span ws (x .other) < i - k
       in-order (yes l) s = l
-      in-order (no l) s = absurd (x .uncovered (omega (arith, s .whole, s .from)))
+      in-order (no l) s = absurd (x .uncovered (omega (arith, s .whole, s .from), omega (arith, x .earlier)))
 
-own-small : (T c i s e n : ℕ) → own-fault T c i s e n ≤ 8
-unfolding own-fault
-own-small T c i s e n = go (leb T i) (ltb e s) (ltb n 4 || (not (eqb (n % 4) 0) || ltb (4 * suc c) n))
-  where
-    go : (x y z : Bool) → cond x 6 (cond y 7 (cond z 8 0)) ≤ 8
-    go true y z = omega arith
-    go false true z = omega arith
-    go false false true = omega arith
-    go false false false = omega arith
+  pub crossed-exactly : (fills (finished ws i) k ≡ false) ↔ Crosses ws i
+  crossed-exactly = (λ f. in-words (claim .1 f), λ x. back x (fills (finished ws i) k) refl)
+    where
+      claim : Claim ws i k
+      claim = crossing i ws i k (omega arith) sp few
 
--- the fault of a record, by its own and whether siblings fill its span
-fault-cases : (T : ℕ) (done : Forest) (i s e n : ℕ) → (record-fault T done i s e n ≡ 9) ↔ ((own-fault T (count done) i s e n ≡ 0) × (fills done (descendants n) ≡ false))
-unfolding record-fault
-fault-cases T done i s e n = go (own-fault T (count done) i s e n) (fills done (descendants n)) (own-small T (count done) i s e n)
-  where
-    go : (r : ℕ) (t : Bool) → r ≤ 8 → (_≡_ {A = ℕ} (elim r [ suc r ↦ suc r | zero ↦ cond t 0 9 ]) 9) ↔ ((r ≡ 0) × (t ≡ false))
-    go zero true l = (λ h. absurd (omega arith), λ h. absurd (true≢false (h .1)))
-    go zero false l = (λ h. (refl, refl), λ h. refl)
-    go (suc r) t l = (λ h. absurd (omega arith), λ h. absurd (omega (arith, h .0)))
-
--- 9, where the records before record i have no fault
-pub nine : (T : ℕ) (ws : List ℕ) (i : ℕ) → Spelt ws i
-    → (record-fault T (finished ws i) (id-of ws i) (start-of ws i) (end-of ws i) (last-of ws i) ≡ 9) ↔ ((fault-at T ws i ≡ 0) × Crosses ws i)
-nine T ws i sp = (there, back)
-  where
-    cases : (record-fault T (finished ws i) (id-of ws i) (start-of ws i) (end-of ws i) (last-of ws i) ≡ 9)
-        ↔ ((own-fault T (count (finished ws i)) (id-of ws i) (start-of ws i) (end-of ws i) (last-of ws i) ≡ 0) × (fills (finished ws i) (descendants (last-of ws i)) ≡ false))
-    cases = fault-cases T (finished ws i) (id-of ws i) (start-of ws i) (end-of ws i) (last-of ws i)
-
-    own-is : own-fault T (count (finished ws i)) (id-of ws i) (start-of ws i) (end-of ws i) (last-of ws i) ≡ fault-at T ws i
-    own-is = ap (λ (c : ℕ). own-fault T c (id-of ws i) (start-of ws i) (end-of ws i) (last-of ws i)) (counted ws i sp)
-
-    there : record-fault T (finished ws i) (id-of ws i) (start-of ws i) (end-of ws i) (last-of ws i) ≡ 9 → (fault-at T ws i ≡ 0) × Crosses ws i
-    there h =
-        let c = cases .0 h in
-        let own : fault-at T ws i ≡ 0 = sym own-is ∙ c .0 in
-        let o = own-fine T i _ _ _ _ own in
-        let few : descendants (last-of ws i) ≤ i = omega (arith, o .2, o .3) in
-        (own, in-words ws i (descendants (last-of ws i)) sp few (o .2) (crossing i ws i (descendants (last-of ws i)) (omega arith) sp few .1 (c .1)))
-
-    back : (fault-at T ws i ≡ 0) × Crosses ws i → record-fault T (finished ws i) (id-of ws i) (start-of ws i) (end-of ws i) (last-of ws i) ≡ 9
-    back h =
-        let o = own-fine T i _ _ _ _ (h .0) in
-        let few : descendants (last-of ws i) ≤ i = omega (arith, o .2, o .3) in
-        cases .1 (own-is ∙ h .0, empty-there few (o .2) (fills (finished ws i) (descendants (last-of ws i))) refl)
-      where
-        empty-there : descendants (last-of ws i) ≤ i → last-of ws i ≡ 4 * suc (descendants (last-of ws i)) → (t : Bool) → fills (finished ws i) (descendants (last-of ws i)) ≡ t → fills (finished ws i) (descendants (last-of ws i)) ≡ false
-        empty-there few size false e = e
-        empty-there few size true e =
-            absurd (crossing i ws i (descendants (last-of ws i)) (omega arith) sp few .0 e (in-records ws i (descendants (last-of ws i)) sp few size (h .1)))
+      back : Crosses ws i → (t : Bool) → fills (finished ws i) k ≡ t → fills (finished ws i) k ≡ false
+      back x false e = e
+      back x true e = absurd (claim .0 e (in-records x))

@@ -11,3 +11,4 @@ pub mod Ranges
 pub mod Lowest
 pub mod Answers
 pub mod Crossing
+pub mod NineExactly

@@ -27,7 +27,8 @@ fills (add before i s e kids) zero = true
 fills (add before i s e kids) (suc k) = leb (count kids) k && fills before (k - count kids)
 
 -- The first of 6 to 9 that applies to a record that follows those of `done`, or 0. 9: its span begins inside an earlier
--- record's span without covering it whole, so that no siblings fill it (proofs/Crossing has 9 by counting words).
+-- record's span without covering it whole, so that no siblings fill it (specs/Nine has 9 by counting words, and
+-- proofs/NineExactly that it is the same).
 unfoldable pub record-fault : (T : ℕ) (done : Forest) (i s e n : ℕ) → ℕ
 record-fault T done i s e n =
     elim (own-fault T (count done) i s e n) [

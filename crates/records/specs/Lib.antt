@@ -3,3 +3,4 @@ pub mod Parse
 pub mod Check
 pub mod Answer
 pub mod Taking
+pub mod Nine
