@@ -1,4 +1,5 @@
 pub mod Cut
 pub mod Rebasing
 pub mod Cases
+pub mod NineteenExactly
 pub mod Passing

@@ -1,8 +1,9 @@
--- Rebasing record by record: what one record adds to the words and to the largest end, and how many words there are.
+-- Rebasing record by record: what one record adds to the words and to the largest end, how many words there are, and the words of
+-- record i.
 -- Assumes nothing.
 use mathlib.Core.Path.{_≡_, refl}
 use mathlib.Core.List.{List, [], _∷_, _++_}
-use Prim.Native.Nat.{ℕ, _+_, _-_, _*_, _/_, max, _≤_, _<_}
+use Prim.Native.Nat.{ℕ, zero, suc, _+_, _-_, _*_, _/_, max, _≤_, _<_}
 use native.Mathlib.Omega.{arith}
 use lib.ListN.{length, drop, length-drop}
 use Rattle.words.specs.Words.{id-of, start-of, end-of, put, front}
@@ -44,6 +45,28 @@ rebased-length from base (a ∷ []) = refl
 rebased-length from base (a ∷ b ∷ []) = refl
 rebased-length from base (a ∷ b ∷ c ∷ []) = refl
 rebased-length from base (a ∷ b ∷ c ∷ d ∷ rest) = let e = rebased-length from base rest in omega arith
+
+-- record i of a rebased cut
+pub record At (from base : ℕ) (cut : List ℕ) (i : ℕ) : Type 0 where
+  pub id : id-of (rebased from base cut) i ≡ id-of cut i
+  pub start : start-of (rebased from base cut) i ≡ start-of cut i - base
+  pub end : end-of (rebased from base cut) i ≡ end-of cut i - base
+  pub index : end-index (rebased from base cut) i ≡ end-index cut i - from
+
+pub rebased-at : (from base : ℕ) (cut : List ℕ) (i : ℕ) → i * 4 + 4 ≤ length cut → At from base cut i
+unfolding rebased
+rebased-at from base [] i l = absurd (omega arith)
+rebased-at from base (a ∷ []) i l = absurd (omega arith)
+rebased-at from base (a ∷ b ∷ []) i l = absurd (omega arith)
+rebased-at from base (a ∷ b ∷ c ∷ []) i l = absurd (omega arith)
+rebased-at from base (a ∷ b ∷ c ∷ d ∷ rest) zero l = record { id = refl; start = refl; end = refl; index = refl }
+rebased-at from base (a ∷ b ∷ c ∷ d ∷ rest) (suc i) l =
+    let r = rebased-at from base rest i (omega arith) in
+    let p : suc i * 4 ≡ suc (suc (suc (suc (i * 4)))) = omega arith in
+    let q : suc i * 4 + 1 ≡ suc (suc (suc (suc (i * 4 + 1)))) = omega arith in
+    let s : suc i * 4 + 2 ≡ suc (suc (suc (suc (i * 4 + 2)))) = omega arith in
+    let t : suc i * 4 + 3 ≡ suc (suc (suc (suc (i * 4 + 3)))) = omega arith in
+    record { id = rw p (r .id); start = rw q (r .start); end = rw s (r .end); index = rw t (r .index) }
 
 -- the first i records stand rebased at the front of the output
 abbrev pub Done : (from base : ℕ) (cut out₀ out : List ℕ) (i : ℕ) → Type 0

@@ -1,3 +1,4 @@
 pub mod Slice
 pub mod Answer
 pub mod Rebasing
+pub mod Cutting

@@ -14,7 +14,8 @@ use Rattle.part.specs.Part.{part-check, end-index}
 abbrev pub below : List ℕ → ℕ → Option ℕ
 below cut base = first-from (λ i. ltb (start-of cut i) base) 0 (length cut / 4)
 
--- 19 on the cut part: the first record of the cut whose end index is past the second bound
+-- 19 on the cut part: the first record of the cut whose end index is past the second bound, which is the first one at fault in the
+-- part check of the rebased cut (proofs/NineteenExactly)
 abbrev pub outside : List ℕ → ℕ → Option ℕ
 outside cut to = first-from (λ i. ltb to (end-index cut i)) 0 (length cut / 4)
 
