@@ -1,2 +1,3 @@
 pub mod Faults
 pub mod OpenEnds
+pub mod Constants

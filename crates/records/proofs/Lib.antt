@@ -12,3 +12,4 @@ pub mod Lowest
 pub mod Answers
 pub mod Crossing
 pub mod NineExactly
+pub mod Constants

@@ -19,7 +19,7 @@ use Rattle.rules.specs.Lowest.{chain, chains, any-part, named, top-broke
 use Rattle.rules.specs.Calls.{items, unless-bad, result-room, lines-room, handed-in, materialise-call, balance-room, balance-call, list-call}
 
 -- the calls with all that it takes to compute them
-unfoldable materialised : (T : ℕ) (cs ws : List ℕ) (work : ℕ) (out : List ℕ) → Result
+unfoldable pub materialised : (T : ℕ) (cs ws : List ℕ) (work : ℕ) (out : List ℕ) → Result
 unfolding bad-cell cells-of first-child chain chains any-part named top-broken kind-broken id-broken link-broken count-broken place-broken order-broken inside-broken end-broken part-broken stray-broken any-of broken next-named first-named words-end lowest-from top-named part-kept ranges bound earliest still part-check faults-from fault own-fault crosses items unless-bad result-room handed-in materialise-call _⊕_ nodes within beyond unpack materialise relative absolute packed unless-none kind id-word cells leading following cell-tree decode-from decode tree-cells siblings materialise-cells
 materialised T cs ws work out = materialise-call T cs ws work out
 
@@ -27,7 +27,7 @@ unfoldable balances : (T : ℕ) (cs ws : List ℕ) (work : ℕ) (out words : Lis
 unfolding bad-cell cells-of first-child chain chains any-part named top-broken kind-broken id-broken link-broken count-broken place-broken order-broken inside-broken end-broken part-broken stray-broken any-of broken next-named first-named words-end lowest-from top-named part-kept ranges bound earliest still part-check faults-from fault own-fault crosses items unless-bad result-room handed-in balance-room balance-call nodes relative absolute packed unless-none kind id-word cells leading following cell-tree decode-from decode tree-cells siblings balanced balance-cells written
 balances T cs ws work out words = balance-call T cs ws work out words
 
-unfoldable listed : (T F S : ℕ) (cs : List ℕ) (work : ℕ) (out : List ℕ) → Result
+unfoldable pub listed : (T F S : ℕ) (cs : List ℕ) (work : ℕ) (out : List ℕ) → Result
 unfolding bad-cell cells-of first-child chain chains any-part named top-broken kind-broken id-broken link-broken count-broken place-broken order-broken inside-broken end-broken part-broken stray-broken any-of broken next-named first-named words-end lowest-from top-named part-kept ranges bound earliest still part-check faults-from fault own-fault crosses items unless-bad lines-room list-call absolute leading following cell-tree decode-from decode lines list-cells listing node-line node-below line below kids-of
 listed T F S cs work out = list-call T F S cs work out
 

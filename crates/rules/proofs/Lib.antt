@@ -27,3 +27,4 @@ pub mod RunCalls
 -- Examples by computation.
 pub mod Examples
 pub mod CallExamples
+pub mod Constants

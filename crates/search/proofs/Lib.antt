@@ -1,3 +1,4 @@
 pub mod Sides
 pub mod Way
 pub mod Cases
+pub mod Constants

@@ -22,6 +22,8 @@ pub mod CountLaws
 pub mod WordLaws
 pub mod Table
 pub mod Limits
+pub mod FlatLimits
+pub mod Constants
 pub mod PartForms
 pub mod CallLaws
 pub mod MaterialiseLaws

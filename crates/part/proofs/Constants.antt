@@ -1,0 +1,20 @@
+-- The part check's constants from both sides: one less or one more in the definition would break a law here. By computation.
+-- Assumes nothing.
+use mathlib.Core.Path.{_≡_, refl}
+use mathlib.Core.List.{[], _∷_}
+use Rattle.words.specs.Outcome.{accepted, refused}
+use Rattle.part.specs.Part.{part-check, faults-from, fault, own-fault, crosses}
+
+-- "1: T above 65,536"
+pub type-limits : (part-check [] 65536 ≡ accepted (0 ∷ [])) × (part-check [] 65537 ≡ refused 1 0)
+unfolding part-check faults-from
+type-limits = (refl, refl)
+
+-- "16: length not a multiple of 4"; "19: end index below offset + 4, above the length, or not a multiple of 4"
+pub word-limits :
+    (part-check (0 ∷ 0 ∷ 0 ∷ []) 1 ≡ refused 16 0) × (part-check (0 ∷ 0 ∷ 0 ∷ 4 ∷ 0 ∷ []) 1 ≡ refused 16 0)
+    × (part-check (0 ∷ 0 ∷ 0 ∷ 4 ∷ []) 1 ≡ accepted (1 ∷ []))
+    × (part-check (0 ∷ 0 ∷ 0 ∷ 0 ∷ []) 1 ≡ refused 19 0) × (part-check (0 ∷ 0 ∷ 0 ∷ 8 ∷ []) 1 ≡ refused 19 0)
+    × (part-check (0 ∷ 0 ∷ 0 ∷ 6 ∷ 0 ∷ 0 ∷ 0 ∷ 8 ∷ []) 1 ≡ refused 19 0)
+unfolding part-check faults-from fault own-fault crosses
+word-limits = (refl, refl, refl, refl, refl, refl)
