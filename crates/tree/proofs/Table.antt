@@ -1,5 +1,6 @@
--- The starred examples of document 01 about builds, listings and balancing, computed from the definitions that the
--- calls cite. Assumes nothing.
+-- The starred examples of document 01 about builds, which are rows of the table in crates/examples; and those about listings and
+-- balancing by what the calls write, which that table has by the whole calls. Here the edits of these definitions meet them.
+-- Computed. Assumes nothing.
 use mathlib.Core.Path.{_≡_, refl}
 use mathlib.Core.List.{List, [], _∷_}
 use mathlib.Core.Option.{none, some}
@@ -76,8 +77,9 @@ leaves (suc n) s = tree (some 1) s 1 nil (leaves n (s + 1))
 unfoldable pub children : (n : ℕ) → ℕ
 children n = getD ((balance-cells (tree-cells 0 (tree (some 0) 0 n (leaves n 0) nil)) []) .cells) 5 0
 
-abbrev pub Examples : Type 0
-Examples =
+-- the rows about builds
+abbrev pub Builds : Type 0
+Builds =
     -- b 1,024: two cells, twelve words
     (build-P 1024 ≡ record {
       outcome = accepted (2 ∷ 12 ∷ []);
@@ -90,11 +92,6 @@ Examples =
     })
     -- b 1: four cells, no words
     × (build-P 1 ≡ record { outcome = accepted (4 ∷ 0 ∷ []); outputs = cells-1 ∷ nines 12 ∷ [] })
-    -- each lists the ordinary reading
-    × (listed-from 4 0 cells-1024 words-1024 ≡ lines-P)
-    × (listed-from 4 0 cells-5 words-5 ≡ lines-P)
-    × (listed-from 4 0 cells-1 [] ≡ lines-P)
-    × (reading 4 0 (parse P) ≡ lines-P)
     -- (1,5,7,4), S 5: two cells; S 6: 10 at record 0, outputs unchanged
     × (build-call 4 4 1024 5 0 none 192 (1 ∷ 5 ∷ 7 ∷ 4 ∷ []) (nines 14) [] ≡ record {
       outcome = accepted (2 ∷ 0 ∷ []);
@@ -105,10 +102,24 @@ Examples =
     × (build-call 3 2 2 0 0 none 576 repeat-list (nines 42) [] ≡ record { outcome = accepted (6 ∷ 0 ∷ []); outputs = six-cells ∷ [] ∷ [] })
     -- no records: one cell, length 0
     × (build-call 4 4 1024 0 0 none 96 [] (nines 7) [] ≡ record { outcome = accepted (1 ∷ 0 ∷ []); outputs = (1 ∷ 0 ∷ 0 ∷ 0 ∷ 0 ∷ 0 ∷ 0 ∷ []) ∷ [] ∷ [] })
-    -- ten leaf trees balance to ten children, eleven to six
-    × (children 10 ≡ 10)
-    × (children 11 ≡ 6)
 
-pub table : Examples
-unfolding nines leaves children count behind line below reading nearest farther parse-from parse own-fault fills record-fault records-check in-place or-else range-fault first-level-fault list-check check _⊕_ nodes siblings is-nil kids-of first-start last-end repeats same items records first leftmost width words stopped early scan long packs run-from entry pack run-part same-type all-of total share grows groups-from groups lone is-tree joined placed each divide balance balanced fresh gather close pass rest-closed finish flattened flat-words held-end flat-part hold limit full ends too-deep flat walk first-level build within beyond unpack materialise node-line node-below listing lines relative absolute packed unless-none kind id-word cells tree-cells leading following cell-tree decode-from decode written build-cells materialise-cells balance-cells list-cells room build-call
-table = (refl, refl, refl, refl, refl, refl, refl, refl, refl, refl, refl, refl, refl)
+pub builds : Builds
+unfolding nines count behind nearest farther parse-from parse own-fault fills record-fault records-check in-place or-else range-fault first-level-fault list-check check _⊕_ nodes siblings is-nil kids-of first-start last-end repeats same items records first leftmost width words stopped early scan long packs run-from entry pack run-part same-type all-of total share grows groups-from groups lone is-tree joined placed each divide balance fresh gather close pass rest-closed finish flattened flat-words held-end flat-part hold limit full ends too-deep flat walk first-level build relative packed unless-none kind id-word cells tree-cells written build-cells room build-call
+builds = (refl, refl, refl, refl, refl, refl, refl)
+
+-- what materialising and listing write of each build of P: its ordinary reading
+abbrev pub Listings : Type 0
+Listings =
+    (listed-from 4 0 cells-1024 words-1024 ≡ lines-P)
+    × (listed-from 4 0 cells-5 words-5 ≡ lines-P)
+    × (listed-from 4 0 cells-1 [] ≡ lines-P)
+    × (reading 4 0 (parse P) ≡ lines-P)
+
+pub listings : Listings
+unfolding reading line below count nearest farther parse-from parse _⊕_ nodes siblings kids-of within beyond unpack materialise node-line node-below listing lines relative absolute packed unless-none kind id-word cells tree-cells leading following cell-tree decode-from decode materialise-cells list-cells
+listings = (refl, refl, refl, refl)
+
+-- ten leaf trees balance to ten children, eleven to six
+pub balances : (children 10 ≡ 10) × (children 11 ≡ 6)
+unfolding leaves children _⊕_ nodes siblings kids-of first-start last-end same-type all-of total share grows groups-from groups lone is-tree joined placed each divide balance balanced relative absolute packed unless-none kind id-word cells tree-cells leading following cell-tree decode-from decode written balance-cells
+balances = (refl, refl)
