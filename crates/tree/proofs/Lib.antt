@@ -1,3 +1,4 @@
+pub mod AloneStart
 pub mod Reading
 pub mod ListingLaws
 pub mod PackLaws
