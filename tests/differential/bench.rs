@@ -55,7 +55,7 @@ fn one_part(oracle: &mut Oracle, shape: &str, words: &[u16]) {
     });
     let check = best(words, || {
         let mut info = [0; 3];
-        ours::check(TYPES, black_box(words), &mut info) + info[1] as u32
+        ours::check(TYPES, black_box(words), &mut info) + info[1]
     });
     line("check", shape, words, check, new, None);
     let buffer = made(words.to_vec());

@@ -1,13 +1,11 @@
 //! One case at a time: library against model in everything, library against the Rust where the Rust has an answer.
 
+use crate::lent::UNTOUCHED;
 use crate::model::{self, Answer, Search, Slice};
 use crate::oracle::{self, Oracle, Panicked, TreeBuffer};
 use crate::ours;
 use crate::part_case::{Call, Case};
 use crate::tally::{Outcome, Tally};
-
-/// What stands in an answer slice before a call: no answer has it in any word.
-const UNTOUCHED: u64 = 0xfeed_beef_dead_cafe;
 
 /// One call in so many is made again with an answer slice of 0, 1, 2 or 3 words in turn.
 const SHORT_INFO_EVERY: u64 = 5;
@@ -63,7 +61,7 @@ impl Session {
 
     fn check(&mut self, part: &Part) {
         let case = part.case(Call::Check);
-        let call = |info: &mut [u64]| ours::check(part.types, &part.words, info);
+        let call = |info: &mut [u32]| ours::check(part.types, &part.words, info);
         if !self.answers(&case, part.verdict, call) {
             return;
         }
@@ -76,7 +74,7 @@ impl Session {
         let before: Vec<u16> = (0..call.room).map(filler).collect();
         let (expected, wanted) = model::slice(part.verdict, &part.words, &call, &before);
         let mut out = before.clone();
-        let made = |info: &mut [u64]| {
+        let made = |info: &mut [u32]| {
             out.copy_from_slice(&before);
             ours::slice(part.types, &part.words, &call, &mut out, info)
         };
@@ -103,7 +101,7 @@ impl Session {
     pub fn search(&mut self, part: &Part, call: Search) {
         let case = part.case(Call::Search(call));
         let expected = model::search(part.verdict, &part.words, &call);
-        let made = |info: &mut [u64]| ours::search(part.types, &part.words, &call, info);
+        let made = |info: &mut [u32]| ours::search(part.types, &part.words, &call, info);
         if !self.answers(&case, expected, made) {
             return;
         }
@@ -144,7 +142,7 @@ impl Session {
         &mut self,
         case: &Case,
         expected: Answer,
-        mut call: impl FnMut(&mut [u64]) -> u32,
+        mut call: impl FnMut(&mut [u32]) -> u32,
     ) -> bool {
         self.calls += 1;
         if self.calls % SHORT_INFO_EVERY == 0 {
@@ -161,12 +159,12 @@ impl Session {
         case: &Case,
         expected: Answer,
         held: usize,
-        call: &mut impl FnMut(&mut [u64]) -> u32,
+        call: &mut impl FnMut(&mut [u32]) -> u32,
     ) -> bool {
         let mut info = [UNTOUCHED; 4];
         let number = call(&mut info[..held]);
         let [first, second] = expected.counts;
-        let mut wanted = [expected.place, first, second, UNTOUCHED];
+        let mut wanted = [told(expected.place), told(first), told(second), UNTOUCHED];
         wanted[held..].fill(UNTOUCHED);
         if number == expected.number && info == wanted {
             return true;
@@ -197,6 +195,11 @@ pub fn slice_rust(part: &Part, call: &Slice) -> Result<(Vec<u16>, u32), Panicked
 
 pub fn search_rust(part: &Part, call: &Search) -> Result<Option<usize>, Panicked> {
     oracle::search(part.rust()?, call)
+}
+
+/// A place or a count as a word of an answer slice.
+fn told(number: u64) -> u32 {
+    u32::try_from(number).unwrap_or(u32::MAX)
 }
 
 /// What stands in word `at` of an output slice before a call.

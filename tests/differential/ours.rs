@@ -1,14 +1,14 @@
-//! The library's three calls, through its C interface: each slice is a pointer and a number of elements.
+//! The library's part calls, through its C interface: each slice is a pointer and a number of elements.
 
 use crate::model::{Search, Slice};
 
-#[link(name = "part_exports", kind = "static")]
+#[link(name = "gateway", kind = "static")]
 unsafe extern "C" {
     fn hulwyth_part_check(
         types: u32,
         words: *const u16,
         words_len: usize,
-        info: *mut u64,
+        info: *mut u32,
         info_len: usize,
     ) -> u32;
 
@@ -21,7 +21,7 @@ unsafe extern "C" {
         words_len: usize,
         out: *mut u16,
         out_len: usize,
-        info: *mut u64,
+        info: *mut u32,
         info_len: usize,
     ) -> u32;
 
@@ -35,12 +35,12 @@ unsafe extern "C" {
         side: i8,
         words: *const u16,
         words_len: usize,
-        info: *mut u64,
+        info: *mut u32,
         info_len: usize,
     ) -> u32;
 }
 
-pub fn check(types: u32, words: &[u16], info: &mut [u64]) -> u32 {
+pub fn check(types: u32, words: &[u16], info: &mut [u32]) -> u32 {
     // Safe: both slices are borrowed for the call, and the callee keeps to their lengths.
     unsafe {
         hulwyth_part_check(
@@ -54,7 +54,7 @@ pub fn check(types: u32, words: &[u16], info: &mut [u64]) -> u32 {
 }
 
 /// The output slice decides the room; the call's own figure is not looked at.
-pub fn slice(types: u32, words: &[u16], call: &Slice, out: &mut [u16], info: &mut [u64]) -> u32 {
+pub fn slice(types: u32, words: &[u16], call: &Slice, out: &mut [u16], info: &mut [u32]) -> u32 {
     // Safe: as above.
     unsafe {
         hulwyth_part_slice(
@@ -72,7 +72,7 @@ pub fn slice(types: u32, words: &[u16], call: &Slice, out: &mut [u16], info: &mu
     }
 }
 
-pub fn search(types: u32, words: &[u16], call: &Search, info: &mut [u64]) -> u32 {
+pub fn search(types: u32, words: &[u16], call: &Search, info: &mut [u32]) -> u32 {
     // Safe: as above.
     unsafe {
         hulwyth_part_search(

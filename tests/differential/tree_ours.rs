@@ -31,10 +31,7 @@ unsafe extern "C" {
         info: *mut u32,
         info_len: usize,
     ) -> u32;
-}
 
-#[link(name = "tree_exports", kind = "static")]
-unsafe extern "C" {
     fn hulwyth_balance(
         types: u32,
         cells: *const u32,
@@ -47,7 +44,7 @@ unsafe extern "C" {
         out_len: usize,
         packed: *mut u16,
         packed_len: usize,
-        info: *mut u64,
+        info: *mut u32,
         info_len: usize,
     ) -> u32;
 }
@@ -98,10 +95,8 @@ pub fn balance(
     packed: &mut [u16],
     info: &mut [u32],
 ) -> u32 {
-    let mut told = [0; 4];
-    let told = &mut told[..info.len()];
     // Safe: as above.
-    let number = unsafe {
+    unsafe {
         hulwyth_balance(
             tree.types,
             tree.cells.as_ptr(),
@@ -114,13 +109,8 @@ pub fn balance(
             out.len(),
             packed.as_mut_ptr(),
             packed.len(),
-            told.as_mut_ptr(),
-            told.len(),
+            info.as_mut_ptr(),
+            info.len(),
         )
-    };
-    // Its answer slice has words of 64 bits, of which a call writes three at most.
-    for (word, &number) in info.iter_mut().zip(told.iter()).take(3) {
-        *word = u32::try_from(number).expect("a number of 32 bits");
     }
-    number
 }
