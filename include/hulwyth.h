@@ -1,15 +1,49 @@
-/* Hulwyth's exported calls. Link libgateway.a, which `rt staticlib gateway` writes.
+/* Hulwyth's exported calls. Link libgateway.a, which `rt staticlib gateway` writes; of the C library it needs memset alone.
  *
- * Every slice is a pointer and a number of elements, not of bytes; a slice of no elements may be NULL. The slices of one call must
- * not overlap. A call answers on any numbers and on any words in its slices.
+ *   record lists   hulwyth_check        checks a record list
+ *                  hulwyth_build        writes the tree of a record list
+ *   trees          hulwyth_materialise  writes a tree again, with each packed record as a tree of its own
+ *                  hulwyth_balance      writes a tree again, with a wide top balanced
+ *                  hulwyth_list         writes a line for each ordinary node of a tree
+ *   packed parts   hulwyth_part_check   checks a packed part
+ *                  hulwyth_part_slice   writes a slice of a packed part as a part
+ *                  hulwyth_part_search  finds a record of a packed part
  *
- * Return: 0 where the call is accepted, else the number of the refusal (README.md has them all).
  *
- * info takes, as many as it holds: the place, the first count, the second count. Refused: the place is the offender, or 0 where
- * none is named, and both counts are 0. Accepted: the place is 0. A place or count above 4,294,967,295 is told as 4,294,967,295.
+ * Every call
  *
- * Outputs: a refused call leaves them as they were; an accepted one writes only the counted front. The work slice is scratch
- * space: what it held before decides nothing, and nothing is said of what it holds afterwards.
+ * A slice is a pointer and a number of elements, not of bytes; a slice of no elements may be NULL. Each pointer is aligned for its
+ * element type, as C asks of any uint32_t and uint16_t. Output slices, the work slice and info overlap no other slice of the call.
+ * Apart from that a call answers on any numbers and on any words in its slices.
+ *
+ * Return: 0 where the call is accepted, else the number of the refusal. Where several apply it is the first, in the order in which
+ * the tables below have them; of several records or cells at fault the lowest is named.
+ *
+ * info takes, as many as it holds: the place, the first count, the second count. Accepted: the place is 0, and so is a count that
+ * the call does not name. Refused: the place is the offender, or 0 where none is named, and both counts are 0. A place or count
+ * above 4,294,967,295 is told as 4,294,967,295.
+ *
+ * Outputs: a refused call leaves them as they were; an accepted one writes only the counted front.
+ *
+ * The work slice is scratch space: what it held before decides nothing, and nothing is said of what it holds afterwards.
+ *
+ *
+ * Native stack
+ *
+ * What the calls take of it, the parameters included, was measured on x86-64 on the worst inputs known (tests/c/stack):
+ *
+ *   hulwyth_build         1.6 MB  1,573,239 bytes where 16,383 records are packed, each in the next; no more can be
+ *   the three part calls  40 KB   33,015 bytes for 3 records as for 16,383; 36,087 in the first one, if memset is bound only then
+ *   hulwyth_balance       4 KB    2,647 bytes for 44,739,240 siblings, the most that are taken; 2,023 for 1,000,000
+ *   the others            1 KB    471 bytes for 1,000,000 nested trees as for a packed part of 3 records
+ *
+ * A thread of 2 MiB was enough for each call, and one of 64 KiB for each but hulwyth_build.
+ *
+ *
+ * Threads
+ *
+ * The calls keep no state: they have no data of their own that is written to, and allocate nothing. Any number of threads may call
+ * at the same time, each with output, work and info slices of its own; input slices may be shared where nobody writes to them.
  */
 #ifndef HULWYTH_H
 #define HULWYTH_H
@@ -21,17 +55,42 @@
 extern "C" {
 #endif
 
-/* Checks a record list. First count: the records. Refusals 1 to 11.
+/* Record lists
  *
- * types         T, the number of node types: at most 65,536 (1)
- * first_repeat  F: ids from F up are repeat records; it decides nothing here
- * bound         b, the length bound: at most 65,535 (2)
- * start         S, the build start: no first-level record starts before it (10)
- * top           the id of the top: below T (3)
- * records       four words a record: id, start, end, size; children before parents
- * records_len   its words: a multiple of 4 (4), at most 4,194,304 (5)
+ * Four words a record: id, start, end, size; children before parents. The size counts the words of the record and its descendants;
+ * the record's span is as many words, its own the last of them. T is the number of node types, F the first repeat id (ids from F up
+ * are repeat records, the others ordinary), b the length bound, S the build start.
+ *
+ *    1  T is above 65,536
+ *    2  b is above 65,535
+ *    3  the top id is not below T
+ *    4  the number of words is not a multiple of 4
+ *    5  there are more than 1,048,576 records
+ *   11  the work slice is below 96 words for each record and 96 more
+ *    6  an id is not below T
+ *    7  a start is after the end
+ *    8  a size is below 4, not a multiple of 4, or above 4 * (record number + 1)
+ *    9  a span begins inside an earlier record's span without covering it whole
+ *   10  a first-level record starts before S, a child's range leaves its parent's, or a record starts before the end of its
+ *       preceding sibling
+ *   12  there is too little room for the cells (hulwyth_build)
+ *   13  there is too little room for the packed words (hulwyth_build)
+ *
+ * 6 to 9 are tested together, record by record, and 10 only where none of them applies. The place of 6 to 10 is the number of the
+ * record, counted from 0: in 10 of the first-level record, the child, the later sibling.
+ */
+
+/* Checks a record list. First count: the records. Refusals 1 to 5, 11, 6 to 10.
+ *
+ * types         T
+ * first_repeat  F; it decides nothing here
+ * bound         b
+ * start         S
+ * top           the id of the top
+ * records       the list
+ * records_len   its words
  * work          scratch space
- * work_len      its words: at least 96 for each record and 96 more (11)
+ * work_len      its words: 96 for each record, and 96
  * info          place and counts
  * info_len      its words
  */
@@ -39,24 +98,28 @@ uint32_t hulwyth_check(uint32_t types, uint32_t first_repeat, uint32_t bound, ui
                        const uint32_t *records, size_t records_len, uint32_t *work, size_t work_len,
                        uint32_t *info, size_t info_len);
 
-/* Builds the tree of a record list. First count: the cells written; second count: the packed words written. Refusals 1 to 5, 11, 6 to
- * 10, 12, 13, in this order.
+/* Builds the tree of a record list. First count: the cells written; second count: the packed words written. Refusals 1 to 5, 11, 6
+ * to 10, 12, 13.
  *
- * types         T, the number of node types: at most 65,536 (1)
- * first_repeat  F: ids from F up are repeat records
- * bound         b, the length bound: at most 65,535 (2); a record no longer than b may be packed
- * start         S, the build start: no first-level record starts before it (10)
- * top           the id of the top: below T (3)
+ * A list that is nested deeper than 2,503 levels may lose records: inside 2,502 trees, each in the next, and the top around them,
+ * only records without children are kept. So the listing of what was built and materialised is the list's ordinary reading for
+ * lists of at most 2,503 levels.
+ *
+ * types         T
+ * first_repeat  F
+ * bound         b; a record no longer than b may be packed
+ * start         S, from which the positions of the first level are counted
+ * top           the id of the top
  * given         0: no length is given, and the top ends with its last child; any other number: the top's length is given
  * length        the top's length; it decides nothing where given is 0
- * records       four words a record: id, start, end, size; children before parents
- * records_len   its words: a multiple of 4 (4), at most 4,194,304 (5)
+ * records       the list
+ * records_len   its words
  * work          scratch space
- * work_len      its words: at least 96 for each record and 96 more (11)
- * cells         the cells of the result, seven words each, as hulwyth_materialise takes them
- * cells_len     its words: at least seven for each cell of the result (12)
- * words         the words of the result's packed parts
- * words_len     how many: at least those of the result (13); four for each record always suffice
+ * work_len      its words: 96 for each record, and 96
+ * cells         the cells of the result
+ * cells_len     its words: seven for each cell; a list of n records has at most 2 * n + 1 cells
+ * words         the packed words of the result
+ * words_len     how many: four for each record always suffice
  * info          place and counts
  * info_len      its words
  */
@@ -65,21 +128,49 @@ uint32_t hulwyth_build(uint32_t types, uint32_t first_repeat, uint32_t bound, ui
                        uint32_t *work, size_t work_len, uint32_t *cells, size_t cells_len,
                        uint16_t *words, size_t words_len, uint32_t *info, size_t info_len);
 
-/* Writes the cells of a tree with each packed record as a tree of its own. First count: the cells written; second count: 0, no
- * packed words are written. Refusals 1, 11, 15, 12.
+/* Trees
  *
- * types      T, the number of node types: at most 65,536 (1)
- * cells      seven words a cell, in preorder: kind (1 tree, 2 packed part, 3 tree of no type), id, position from the parent's
- *            start, length, first (the first child's cell, counted from 1, or 0; of a part its word offset), count (of children,
- *            or of a part's words), next (the next sibling's cell, or 0)
- * cells_len  its words: a multiple of 7 and not 0 (15)
- * words      the words of the packed parts: four to a record, id, start, end, end index; parents before children
- * words_len  how many: just those of the parts (15)
+ * Cells of seven words, numbered from 1 in preorder:
+ *
+ *   kind      1 a tree, 2 a packed part, 3 a tree of no type
+ *   id        below T; 0 for the kinds 2 and 3
+ *   position  from the parent's start
+ *   length
+ *   first     the first child's cell, 0 for none; of a packed part its word offset
+ *   count     of the children; of a packed part's words
+ *   next      the next sibling's cell, 0 for none
+ *
+ * Beside them stand the packed words, of one part after the other (see "Packed parts").
+ *
+ *    1  T is above 65,536
+ *   11  the work slice is below 96 words for each item and 96 more; the items are the cells and every fourth packed word
+ *   15  a cell breaks a rule; the place is the lowest such cell, or 0 where there is no cell or the words are not a multiple of 7
+ *   12  there is too little room for the cells of the result, or it has more than 4,294,967,295 of them; in hulwyth_balance also:
+ *       there are more than 44,739,241 items
+ *   13  there is too little room for the packed words of the result (hulwyth_balance)
+ *   14  there is too little room for the lines (hulwyth_list)
+ *
+ * The rules: kind and id are as above. Cell 1 is the top, of kind 1, at position 0, without a next. A first child is the next cell;
+ * next names the cell after a cell's last descendant; a cell has count children; each cell but the top is the child of one cell. A
+ * sibling starts at or after the end of the one before it. Children end within their parent, those of the top excepted. The packed
+ * parts follow each other from word 0 on in the order of their cells, to the last word, and 16 to 20 apply to none of them; their
+ * records nest and follow each other as in 10 and end within the part's length. The absolute end of each cell but the top is at
+ * most 4,294,967,295; it is counted from S in hulwyth_list and from 0 elsewhere. A rule about two cells counts against the higher
+ * one, a rule about the number of a cell's children against that cell.
+ */
+
+/* Writes the cells of a tree with each packed record as a tree of its own, under the tree or the record that held it. First count:
+ * the cells written; no packed words are written. Refusals 1, 11, 15, 12.
+ *
+ * types      T
+ * cells      the cells
+ * cells_len  their words
+ * words      the packed words
+ * words_len  how many
  * work       scratch space
- * work_len   its words: at least 96 for each cell and each fourth packed word, and 96 more (11)
+ * work_len   its words: 96 for each item, and 96
  * out        the cells of the result
- * out_len    its words: at least seven for each cell of the result, which has as many cells as the tree has trees and packed
- *            records (12)
+ * out_len    its words: seven for each tree and each packed record
  * info       place and counts
  * info_len   its words
  */
@@ -87,24 +178,116 @@ uint32_t hulwyth_materialise(uint32_t types, const uint32_t *cells, size_t cells
                              const uint16_t *words, size_t words_len, uint32_t *work, size_t work_len,
                              uint32_t *out, size_t out_len, uint32_t *info, size_t info_len);
 
+/* Writes the cells and packed words of a tree with its top balanced, where it has more than 8 children: groups of them are put
+ * under trees of no type. First count: the cells written; second count: the packed words written, as many as are handed in.
+ * Refusals 1, 11, 15, 12, 13.
+ *
+ * types       T
+ * cells       the cells
+ * cells_len   their words
+ * words       the packed words
+ * words_len   how many
+ * work        scratch space
+ * work_len    its words: 96 for each item, and 96
+ * out         the cells of the result
+ * out_len     its words: seven for each cell; twice as many cells as are handed in always suffice
+ * packed      the packed words of the result
+ * packed_len  how many: words_len
+ * info        place and counts
+ * info_len    its words
+ */
+uint32_t hulwyth_balance(uint32_t types, const uint32_t *cells, size_t cells_len, const uint16_t *words, size_t words_len,
+                         uint32_t *work, size_t work_len, uint32_t *out, size_t out_len,
+                         uint16_t *packed, size_t packed_len, uint32_t *info, size_t info_len);
+
 /* Lists a tree without packed parts: a line of depth, id, start and end for each node but the top, repeat trees and trees of no
  * type, parents first. The depth counts the listed nodes around it. First count: the lines. Refusals 1, 11, 15, 14.
  *
- * types         T, the number of node types: at most 65,536 (1)
+ * types         T
  * first_repeat  F: ids from F up are repeat trees
  * start         S, added to every start and end
- * cells         seven words a cell, as hulwyth_materialise writes them; no cell is of kind 2 (15)
- * cells_len     its words: a multiple of 7 and not 0 (15)
+ * cells         the cells; none is of kind 2 (15)
+ * cells_len     their words
  * work          scratch space
- * work_len      its words: at least 96 for each cell and 96 more (11)
+ * work_len      its words: 96 for each cell, and 96
  * lines         four words a line
- * lines_len     its words: at least four for each line (14)
+ * lines_len     its words: four for each line; there are fewer lines than cells
  * info          place and counts
  * info_len      its words
  */
 uint32_t hulwyth_list(uint32_t types, uint32_t first_repeat, uint32_t start, const uint32_t *cells, size_t cells_len,
                       uint32_t *work, size_t work_len, uint32_t *lines, size_t lines_len,
                       uint32_t *info, size_t info_len);
+
+/* Packed parts
+ *
+ * Four words a record: id, start, end, end index; parents before children. The end index is the word offset behind the last
+ * descendant of the record.
+ *
+ *    1  T is above 65,536
+ *   16  the number of words is not a multiple of 4
+ *   17  an id is not below T
+ *   18  a start is after the end
+ *   19  an end index is below the record's offset + 4, above the number of words, or not a multiple of 4
+ *   20  an end index is above that of a record around it
+ *   21  from is above to, or to is above the number of words
+ *   22  from or to is not a multiple of 4
+ *   23  base is above the start of a record from from up to to (hulwyth_part_slice)
+ *   19  the end index of a record from from up to to is above to (hulwyth_part_slice)
+ *   13  there is too little room for the words (hulwyth_part_slice)
+ *   24  following end indices from from never meets to (hulwyth_part_search)
+ *   25  base and the end of a record on that way are together above 4,294,967,295 (hulwyth_part_search)
+ *
+ * 17 to 20 are tested together, record by record. The place of 17 to 20, 23 and 25 is the word offset of the record in words.
+ */
+
+/* Checks a packed part. First count: the records. Refusals 1, 16 to 20.
+ *
+ * types      T
+ * words      the part
+ * words_len  its words
+ * info       place and counts
+ * info_len   its words
+ */
+uint32_t hulwyth_part_check(uint32_t types, const uint16_t *words, size_t words_len, uint32_t *info, size_t info_len);
+
+/* Writes the records of a packed part from the word from up to the word to, as a part: starts and ends are counted from base, end
+ * indices from from. First count: the words written; second count: the slice's length, which is the largest end left, or 0 where it
+ * has no record. Refusals 1, 16 to 22, 23, 19, 13.
+ *
+ * types      T
+ * from       the word offset of the first record
+ * to         the word offset behind the last record
+ * base       what starts and ends are lowered by
+ * words      the part
+ * words_len  its words
+ * out        the slice
+ * out_len    its words: to - from
+ * info       place and counts
+ * info_len   its words
+ */
+uint32_t hulwyth_part_slice(uint32_t types, size_t from, size_t to, uint32_t base, const uint16_t *words, size_t words_len,
+                            uint16_t *out, size_t out_len, uint32_t *info, size_t info_len);
+
+/* Follows the end indices of a packed part, from sibling to sibling, and finds a record on a side of a position. Counts: 1 and the
+ * match's word offset, or 0 and 0 for none. Refusals 1, 16 to 22, 24, 25; the place of 25 is the first such record on the way, past
+ * a match too.
+ *
+ * types      T
+ * from       the word offset of the first record on the way
+ * to         the word offset behind the last one
+ * direction  above 0: the first match is found; else the last
+ * position   the position
+ * base       added to starts and ends before they are compared with it
+ * side       which records match: -2 start < position; -1 start < position <= end; 0 start < position < end; 1 start <= position <
+ *            end; 2 position < end; 4 any; any other number none
+ * words      the part
+ * words_len  its words
+ * info       place and counts
+ * info_len   its words
+ */
+uint32_t hulwyth_part_search(uint32_t types, size_t from, size_t to, int8_t direction, uint32_t position, uint32_t base,
+                             int8_t side, const uint16_t *words, size_t words_len, uint32_t *info, size_t info_len);
 
 #ifdef __cplusplus
 }

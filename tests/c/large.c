@@ -7,11 +7,6 @@
 #include <stdio.h>
 #include <stdlib.h>
 
-/* crates/tree_exports: the call balance. Its info holds 64-bit words. */
-uint32_t hulwyth_balance(uint32_t types, const uint32_t *cells, size_t cells_len, const uint16_t *words, size_t words_len,
-                         uint32_t *work, size_t work_len, uint32_t *out, size_t out_len, uint16_t *packed, size_t packed_len,
-                         uint64_t *info, size_t info_len);
-
 enum { MANY = 1000000, ROOM = 2 * MANY };
 
 static int status = 0;
@@ -103,15 +98,14 @@ static void say(const char *what, uint32_t number, uint64_t place, uint64_t coun
 /* All three calls on the tree that stands in `cells`. What is due: cells of the balanced tree and children of its top, lines. */
 static void run(const char *what, size_t count, uint64_t balanced, uint64_t held, uint64_t listed) {
     uint32_t info[3];
-    uint64_t far_info[3];
     printf("%s\n", what);
     uint32_t number = hulwyth_materialise(4, cells, count * 7, NULL, 0, work, work_len, out, ROOM * 7, info, 3);
     say("cells materialised", number, info[0], info[1], count);
     number = hulwyth_list(4, 4, 0, cells, count * 7, work, work_len, lines, ROOM * 4, info, 3);
     say("lines listed", number, info[0], info[1], listed);
-    number = hulwyth_balance(4, cells, count * 7, NULL, 0, work, work_len, out, ROOM * 7, NULL, 0, far_info, 3);
-    say("cells balanced", number, far_info[0], far_info[1], balanced);
-    say("children of the top", number, far_info[0], out[5], held);
+    number = hulwyth_balance(4, cells, count * 7, NULL, 0, work, work_len, out, ROOM * 7, NULL, 0, info, 3);
+    say("cells balanced", number, info[0], info[1], balanced);
+    say("children of the top", number, info[0], out[5], held);
     fflush(stdout);
 }
 
