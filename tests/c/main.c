@@ -1,7 +1,7 @@
-/* The gateway's shape: checks document 01's list P, builds its tree, materialises it and prints its listing, a line of depth, id,
- * start and end for each record. With the argument `short` the work slice of each call is one word short of what it asks for; the
- * program prints the refusal's number and stops. */
-#include <stdint.h>
+/* The gateway's shape: makes each of the eight calls on document 01's examples, with slices of its own, and prints what it gives: a
+ * line with the number, the place and the counts, and under it what the call wrote. With the argument `short` the work slice of a
+ * call is one word short of what it asks for; the program then stops after the first call, with status 1. */
+#include <inttypes.h>
 #include <stdio.h>
 #include <string.h>
 
@@ -14,57 +14,155 @@ enum {
     START = 0,
     TOP = 0,
     RECORDS = 3,
-    CELLS = RECORDS + 1,                /* the top and the records of P */
-    WORK = 96 * (CELLS + RECORDS) + 96, /* for as many items as any call here has */
+    WORDS = 4 * RECORDS,     /* the packed words of so many records at most */
+    CELLS = 2 * RECORDS + 1, /* the cells of so many records at most, before and after materialising */
+    LEAVES = 11,
+    BALANCED = 2 * LEAVES + 1, /* the cells of a top with so many leaves at most, balanced */
 };
 
-static const uint32_t P[RECORDS * 4] = {1, 0, 2, 4, 2, 3, 5, 4, 3, 0, 6, 12};
+/* The words of work for so many items. */
+#define WORK(items) (96 * (items) + 96)
 
-static uint32_t work[WORK];
-static uint32_t cells[CELLS * 7];
-static uint16_t words[RECORDS * 4];
-static uint32_t trees[CELLS * 7];
-static uint32_t lines[RECORDS * 4];
-static uint32_t info[3];
+static const uint32_t P[4 * RECORDS] = {1, 0, 2, 4, 2, 3, 5, 4, 3, 0, 6, 12};
 
-/* The words of work that a call with so many items asks for, less those that are held back. */
-static size_t lent(size_t items, size_t held_back)
+/* A tree, as cells and packed words. */
+struct tree {
+    uint32_t cells[7 * CELLS];
+    uint16_t words[WORDS];
+    size_t cell_count, word_count;
+};
+
+/* Prints what a call answered; whether it was accepted. */
+static int accepted(const char *call, uint32_t number, const uint32_t info[3])
 {
-    return 96 * items + 96 - held_back;
+    printf("%s: %" PRIu32 ", place %" PRIu32 ", counts %" PRIu32 " %" PRIu32 "\n", call, number, info[0], info[1], info[2]);
+    return number == 0;
 }
 
-/* Says that a call is refused; an accepted one is passed over. */
-static int refused(uint32_t number)
+/* Prints so many rows of words. */
+static void print_rows(const uint32_t *words, size_t rows, size_t width)
 {
-    if (number != 0)
-        printf("refusal %u\n", (unsigned)number);
-    return number != 0;
+    for (size_t i = 0; i < rows * width; i++)
+        printf("%s%" PRIu32 "%s", i % width == 0 ? "  " : " ", words[i], i % width == width - 1 ? "\n" : "");
 }
 
-static void print_lines(size_t count)
+/* Prints the records of a packed part. */
+static void print_part(const uint16_t *words, size_t count)
 {
-    for (size_t i = 0; i < count; i++)
-        printf("%u %u %u %u\n", (unsigned)lines[i * 4], (unsigned)lines[i * 4 + 1], (unsigned)lines[i * 4 + 2],
-               (unsigned)lines[i * 4 + 3]);
+    for (size_t i = 0; i + 4 <= count; i += 4)
+        printf("  %" PRIu16 " %" PRIu16 " %" PRIu16 " %" PRIu16 "\n", words[i], words[i + 1], words[i + 2], words[i + 3]);
+}
+
+static int check(size_t held_back)
+{
+    uint32_t work[WORK(RECORDS)], info[3];
+    size_t lent = WORK(RECORDS) - held_back;
+    uint32_t number = hulwyth_check(TYPES, FIRST_REPEAT, BOUND, START, TOP, P, 4 * RECORDS, work, lent, info, 3);
+    return accepted("check", number, info);
+}
+
+static int build(struct tree *tree, size_t held_back)
+{
+    uint32_t work[WORK(RECORDS)], info[3];
+    size_t lent = WORK(RECORDS) - held_back;
+    uint32_t number = hulwyth_build(TYPES, FIRST_REPEAT, BOUND, START, TOP, 0, 0, P, 4 * RECORDS, work, lent, tree->cells,
+                                    7 * CELLS, tree->words, WORDS, info, 3);
+    if (!accepted("build", number, info))
+        return 0;
+    tree->cell_count = info[1];
+    tree->word_count = info[2];
+    print_rows(tree->cells, tree->cell_count, 7);
+    print_part(tree->words, tree->word_count);
+    return 1;
+}
+
+/* Materialising writes no packed words. */
+static int materialise(const struct tree *tree, struct tree *made, size_t held_back)
+{
+    uint32_t work[WORK(CELLS + RECORDS)], info[3];
+    size_t lent = WORK(tree->cell_count + tree->word_count / 4) - held_back;
+    uint32_t number = hulwyth_materialise(TYPES, tree->cells, 7 * tree->cell_count, tree->words, tree->word_count, work, lent,
+                                          made->cells, 7 * CELLS, info, 3);
+    if (!accepted("materialise", number, info))
+        return 0;
+    made->cell_count = info[1];
+    made->word_count = 0;
+    print_rows(made->cells, made->cell_count, 7);
+    return 1;
+}
+
+static int list(const struct tree *tree, size_t held_back)
+{
+    uint32_t work[WORK(CELLS)], lines[4 * RECORDS], info[3];
+    size_t lent = WORK(tree->cell_count) - held_back;
+    uint32_t number = hulwyth_list(TYPES, FIRST_REPEAT, START, tree->cells, 7 * tree->cell_count, work, lent, lines, 4 * RECORDS,
+                                   info, 3);
+    if (!accepted("list", number, info))
+        return 0;
+    print_rows(lines, info[1], 4);
+    return 1;
+}
+
+/* The cells of a top with so many leaves of length 1. */
+static void put_leaves(uint32_t *cells, uint32_t leaves)
+{
+    const uint32_t top[7] = {1, TOP, 0, leaves, 2, leaves, 0};
+    memcpy(cells, top, sizeof top);
+    for (uint32_t i = 0; i < leaves; i++) {
+        const uint32_t leaf[7] = {1, 1, i, 1, 0, 0, i + 1 == leaves ? 0 : i + 3};
+        memcpy(cells + 7 * (i + 1), leaf, sizeof leaf);
+    }
+}
+
+/* Balances a top with so many leaves: no packed words are handed in, and none are written. */
+static int balance(uint32_t leaves, size_t held_back)
+{
+    uint32_t cells[7 * (LEAVES + 1)], out[7 * BALANCED], work[WORK(LEAVES + 1)], info[3];
+    size_t lent = WORK(leaves + 1) - held_back;
+    put_leaves(cells, leaves);
+    uint32_t number = hulwyth_balance(TYPES, cells, 7 * (leaves + 1), NULL, 0, work, lent, out, 7 * BALANCED, NULL, 0, info, 3);
+    if (!accepted("balance", number, info))
+        return 0;
+    printf("  %" PRIu32 " leaves became %" PRIu32 " children\n", leaves, out[5]);
+    return 1;
+}
+
+static int part_check(const struct tree *tree)
+{
+    uint32_t info[3];
+    uint32_t number = hulwyth_part_check(TYPES, tree->words, tree->word_count, info, 3);
+    return accepted("part check", number, info);
+}
+
+/* A refused slice does not stop the program: two of document 01's examples are refused. */
+static void part_slice(const struct tree *tree, size_t from, size_t to, uint32_t base)
+{
+    uint16_t out[WORDS];
+    uint32_t info[3];
+    uint32_t number = hulwyth_part_slice(TYPES, from, to, base, tree->words, tree->word_count, out, WORDS, info, 3);
+    if (accepted("part slice", number, info))
+        print_part(out, info[1]);
+}
+
+/* Searches the two records under the first one, forward, for one around a position. */
+static int part_search(const struct tree *tree, uint32_t position)
+{
+    uint32_t info[3];
+    uint32_t number = hulwyth_part_search(TYPES, 4, 12, 1, position, START, 0, tree->words, tree->word_count, info, 3);
+    return accepted("part search", number, info);
 }
 
 int main(int argc, char **argv)
 {
+    struct tree tree, made;
     size_t held_back = argc > 1 && strcmp(argv[1], "short") == 0;
 
-    if (refused(hulwyth_check(TYPES, FIRST_REPEAT, BOUND, START, TOP, P, RECORDS * 4, work, lent(RECORDS, held_back), info, 3)))
+    if (!check(held_back) || !build(&tree, held_back) || !materialise(&tree, &made, held_back) || !list(&made, held_back))
         return 1;
-    if (refused(hulwyth_build(TYPES, FIRST_REPEAT, BOUND, START, TOP, 0, 0, P, RECORDS * 4, work, lent(RECORDS, held_back), cells,
-                              CELLS * 7, words, RECORDS * 4, info, 3)))
+    if (!balance(LEAVES - 1, held_back) || !balance(LEAVES, held_back) || !part_check(&tree))
         return 1;
-    size_t cell_count = info[1], word_count = info[2];
-    if (refused(hulwyth_materialise(TYPES, cells, cell_count * 7, words, word_count, work,
-                                    lent(cell_count + word_count / 4, held_back), trees, CELLS * 7, info, 3)))
-        return 1;
-    size_t tree_count = info[1];
-    if (refused(hulwyth_list(TYPES, FIRST_REPEAT, START, trees, tree_count * 7, work, lent(tree_count, held_back), lines, RECORDS * 4,
-                             info, 3)))
-        return 1;
-    print_lines(info[1]);
-    return 0;
+    part_slice(&tree, 4, 12, 0);
+    part_slice(&tree, 0, 8, 0);
+    part_slice(&tree, 4, 12, 1);
+    return part_search(&tree, 4) && part_search(&tree, 2) ? 0 : 1;
 }
