@@ -96,7 +96,7 @@ static void *try(void *argument)
     trial->call();
     while (trial->stack[at] == PATTERN)
         at++;
-    trial->taken = (size_t)(&here - (volatile char *)(trial->stack + at));
+    trial->taken = (uintptr_t)&here - (uintptr_t)(trial->stack + at);
     return NULL;
 }
 
