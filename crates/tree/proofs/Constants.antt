@@ -17,7 +17,7 @@ use Rattle.tree.specs.Flat.{Record, rec, hold, limit, full, ends}
 use Rattle.tree.specs.Run.{Run}
 use Rattle.tree.proofs.Table.{leaves}
 
--- "Share: 3 × total ÷ 16 rounded up": the least number of which 16 are 3 × total
+-- "Share: 3 × total ÷ 16 rounded up": the least number that 16 times is 3 × total or more
 pub share-least : (n : ℕ) → (3 * n ≤ 16 * share n) × (16 * share n < 3 * n + 16)
 unfolding share
 share-least n = (omega arith, omega arith)
