@@ -1,3 +1,2 @@
-pub mod Rows
-pub mod Pending
-pub mod Ready
+pub mod Answer
+pub mod Steps

@@ -1,356 +1,227 @@
-// Internal, for the build and the balance call.
-// Balancing on the store of trees: the core of `Tree::balance` and of repeat trees. A row of siblings is its first node and how
-// many they are; the balanced size of each is read off its node.
+// `Tree::balance` of a tree that is handed in as cells and packed words. After the tree check the cells become nodes of the store:
+// one pass in order notes where each cell's parent starts, one from the last cell back adds the nodes. The top's children are then
+// balanced, and one pass writes the result out.
 ghost use mathlib.Core.Path.{_≡_};
-ghost use Prim.Native.Nat.{ℕ, _+_, _-_, _*_, _/_, _≤_, _<_};
-ghost use mathlib.Core.List.{[], _∷_};
-ghost use lib.ListN.{length, getD};
-ghost use Rattle.store.specs.Store.{word, Readable};
-ghost use Rattle.tree.specs.Balance.{total, share};
-ghost use Rattle.words.specs.Words.{put};
-ghost use Rattle.balance.specs.Rows.{sized, Sizable, Row, Grouped};
-ghost use Rattle.balance.specs.Pending.{GroupAt, PushReady, Pushed};
-ghost use Rattle.balance.specs.Ready.{CopyReady, Copied, alone, JoinReady, Joined, DivideReady, Divided, BalanceReady, Balanced, Closed};
+ghost use mathlib.Core.List.{List, [], _∷_};
+ghost use Prim.Native.Nat.{ℕ, _+_, _*_, _/_, _<_, _≤_};
+ghost use lib.ListN.{length};
+ghost use Rattle.tree.specs.Trees.{Trees};
+ghost use Rattle.tree.specs.Balance.{balanced};
+ghost use Rattle.store.specs.Store.{Staged, Same};
+ghost use Rattle.rules.specs.Calls.{handed-in, balance-call};
+ghost use Rattle.balance.specs.Answer.{balanced-outcome};
+ghost use Rattle.balance.specs.Steps.{Given, noted, Linked, links-noted, Based, address, Building, Standing, settled-tree, Lent};
+use balance_core::Made;
 
-// The first group of a row: how many trees, their size, the list after them and their end.
-pub struct Front {
-    pub count: u32,
-    pub size: u32,
-    pub next: u32,
-    pub end: u32,
-}
-
-// A node's balanced size.
-fn size_of(work: &[u32], node: u32, kind: u32, id: u32) -> u32
-    requires { ⌜ Sizable (now work) node kind ⌝ }
-    ensures { λ r. ⌜ r ≡ sized (now (work .entry)) node kind id ⌝ }
+// Puts the packed words below the place `end`, from the last one back: where the first one stands.
+fn stage_words(words: &[u16], work: &mut [u32], end: u32) -> u32
+    requires { ⌜ length (now words) ≤ end ⌝ }
+    requires { ⌜ end ≤ length (now work) ⌝ }
+    ensures { λ r. ⌜ Staged (now (work .exit)) r r (now (words .entry)) ⌝ }
+    ensures { λ r. ⌜ r + length (now (words .entry)) ≡ end ⌝ }
 {
-    let n = store::wide(node);
-    if work[n] == kind {
-        if work[n + 1] == id {
-            return store::at_least_one(store::like(work, work[n + 4], kind, id));
-        }
-        return 1;
+    let mut low = end;
+    let mut i = words.len();
+    while 0 < i {
+        i -= 1;
+        low = store::stage(work, low, words[i]);
     }
-    1
+    low
 }
 
-// Word k of a node.
-fn word_at(work: &[u32], node: u32, k: usize) -> u32
-    requires { ⌜ node + 10 ≤ length (now work) ⌝ }
-    requires { ⌜ k < 10 ⌝ }
-    ensures { λ r. ⌜ r ≡ getD (now (work .entry)) (node + k) 0 ⌝ }
+// Notes the start of the parent of cell x, counted from 1, unless x names none.
+fn note(work: &mut [u32], x: u32, base: u32)
+    requires { ⌜ x ≤ length (now work) ⌝ }
+    ensures { λ _. ⌜ now (work .exit) ≡ noted (now (work .entry)) x base ⌝ }
 {
-    work[store::wide(node) + k]
-}
-
-// Three sixteenths, rounded up.
-fn share_of(n: u32) -> u32
-    ensures { λ r. ⌜ r ≡ share n ⌝ }
-{
-    ((3 * (n as u64) + 15) / 16) as u32
-}
-
-// The first group of a row of k trees: it grows while its size plus the next is below m.
-fn first_group(work: &[u32], node: u32, k: u32, kind: u32, id: u32, m: u32) -> Front
-    requires { ⌜ Row (now work) node k kind id ⌝ }
-    requires { ⌜ 1 ≤ k ⌝ }
-    ensures { λ r. ⌜ ((p : Row (now (work .entry)) node k kind id) → Grouped (now (work .entry)) node k kind id m p (r .count) (r .size) (r .next) (r .end)) ⌝ }
-{
-    let mut count: u32 = 1;
-    let mut size = size_of(work, node, kind, id);
-    let mut end = store::sum(word_at(work, node, 2), word_at(work, node, 3));
-    let mut next = word_at(work, node, 5);
-    while count < k {
-        let grown = store::sum(size, size_of(work, next, kind, id));
-        if m <= grown {
-            return Front {
-                count: count,
-                size: size,
-                next: next,
-                end: end,
-            };
-        }
-        size = grown;
-        end = store::sum(word_at(work, next, 2), word_at(work, next, 3));
-        next = word_at(work, next, 5);
-        count += 1;
+    if x == 0 {
+        return;
     }
-    Front {
-        count: count,
-        size: size,
-        next: next,
-        end: end,
+    work[words::index(x) - 1] = base;
+}
+
+// Notes what the cells that cell i names by next and by first need.
+fn note_links(cells: &[u32], i: usize, work: &mut [u32])
+    requires { ⌜ Linked (now cells) (now work) i ⌝ }
+    ensures { λ _. ⌜ now (work .exit) ≡ links-noted (now (cells .entry)) (now (work .entry)) i ⌝ }
+{
+    let base = work[i];
+    note(work, cells[i * 7 + 6], base);
+    if cells[i * 7] == 2 {
+        return;
+    }
+    note(work, cells[i * 7 + 4], base + cells[i * 7 + 2]);
+}
+
+// Puts the start of each cell's parent into the first words, one for each cell.
+fn note_bases(cells: &[u32], work: &mut [u32])
+    requires { ⌜ ((ws : List ℕ) × Given (now cells) ws (length (now cells) / 7)) ⌝ }
+    requires { ⌜ length (now cells) / 7 ≤ length (now work) ⌝ }
+    ensures { λ _. ⌜ ((ws : List ℕ) → Given (now (cells .entry)) ws (length (now (cells .entry)) / 7) → Based (now (work .exit)) (length (now (cells .entry)) / 7) (handed-in (now (cells .entry)) ws)) ⌝ }
+    ensures { λ _. ⌜ Same (now (work .entry)) (now (work .exit)) 0 0 (length (now (cells .entry)) / 7) ⌝ }
+{
+    work[0] = 0;
+    let n = cells.len() / 7;
+    let mut i: usize = 0;
+    while i < n {
+        note_links(cells, i, work);
+        i += 1;
     }
 }
 
-// The size of a row of k trees: that of its first group under a share which no size reaches.
-pub fn row_size(work: &[u32], node: u32, k: u32, kind: u32, id: u32) -> u32
-    requires { ⌜ Row (now work) node k kind id ⌝ }
-    requires { ⌜ 1 ≤ k ⌝ }
-    ensures { λ r. ⌜ ((p : Row (now (work .entry)) node k kind id) → r ≡ total (p .type) (p .us)) ⌝ }
+// The address of the node of cell x, counted from 1; 0 for none.
+fn node_of(high: u32, x: u32) -> u32
+    requires { ⌜ x * 10 ≤ high ⌝ }
+    ensures { λ r. ⌜ r ≡ address high x ⌝ }
 {
-    let g = first_group(work, node, k, kind, id, u32::MAX);
-    g.size
+    if x == 0 {
+        return 0;
+    }
+    high - x * 10
 }
 
-// A list, and the store's new top.
-pub struct Made {
-    pub top: u32,
-    pub node: u32,
+// Adds the node of cell i before those of the cells after it.
+fn push_cell(cells: &[u32], i: usize, high: u32, low: u32, work: &mut [u32])
+    requires { ⌜ i < length (now cells) / 7 ⌝ }
+    requires { ⌜ ((ws : List ℕ) × Building (now work) (now cells) ws (length (now cells) / 7) high low (i + 1)) ⌝ }
+    ensures { λ _. ⌜ ((ws : List ℕ) → Building (now (work .entry)) (now (cells .entry)) ws (length (now (cells .entry)) / 7) high low (i + 1) → Building (now (work .exit)) (now (cells .entry)) ws (length (now (cells .entry)) / 7) high low i) ⌝ }
+{
+    let top = high - (i as u32 + 1) * 10;
+    let start = work[i] + cells[i * 7 + 2];
+    let next = node_of(high, cells[i * 7 + 6]);
+    if cells[i * 7] == 2 {
+        store::push_part(
+            work,
+            top,
+            start,
+            cells[i * 7 + 3],
+            low + cells[i * 7 + 4],
+            cells[i * 7 + 5],
+            next,
+        );
+        return;
+    }
+    let first = node_of(high, cells[i * 7 + 4]);
+    store::push_tree(
+        work,
+        top,
+        cells[i * 7],
+        cells[i * 7 + 1],
+        start,
+        cells[i * 7 + 3],
+        first,
+        next,
+    );
 }
 
-// A tree of the store again, before another list.
-fn copy(work: &mut [u32], top: u32, node: u32, next: u32) -> Made
-    requires { ⌜ CopyReady (now work) top node next ⌝ }
-    ensures { λ r. ⌜ Copied (now (work .entry)) (now (work .exit)) top node next (r .top) (r .node) ⌝ }
+// Adds the nodes of all cells.
+fn push_cells(cells: &[u32], high: u32, low: u32, work: &mut [u32])
+    requires { ⌜ ((ws : List ℕ) × Building (now work) (now cells) ws (length (now cells) / 7) high low (length (now cells) / 7)) ⌝ }
+    ensures { λ _. ⌜ ((ws : List ℕ) → Building (now (work .entry)) (now (cells .entry)) ws (length (now (cells .entry)) / 7) high low (length (now (cells .entry)) / 7) → Building (now (work .exit)) (now (cells .entry)) ws (length (now (cells .entry)) / 7) high low 0) ⌝ }
 {
-    let kind = word_at(work, node, 0);
-    let id = word_at(work, node, 1);
-    let start = word_at(work, node, 2);
-    let length = word_at(work, node, 3);
-    let first = word_at(work, node, 4);
-    if kind == 2 {
-        let made = store::push_part(work, top, start, length, first, id, next);
+    let mut i = cells.len() / 7;
+    while 0 < i {
+        i -= 1;
+        push_cell(cells, i, high, low, work);
+    }
+}
+
+// The tree with its children balanced, if there are more than 8.
+fn rebuild(cells: &[u32], high: u32, low: u32, work: &mut [u32]) -> Made
+    requires { ⌜ ((ws : List ℕ) × Building (now work) (now cells) ws (length (now cells) / 7) high low 0) ⌝ }
+    requires { ⌜ length (now cells) / 7 * 35 ≤ low ⌝ }
+    ensures { λ r. ⌜ ((ws : List ℕ) → Building (now (work .entry)) (now (cells .entry)) ws (length (now (cells .entry)) / 7) high low 0 → Standing (now (work .exit)) (r .top) (r .node) (balanced (handed-in (now (cells .entry)) ws))) ⌝ }
+{
+    let count = cells[5];
+    if count <= 8 {
         return Made {
-            top: top + 10,
-            node: made,
+            top: high,
+            node: high - 10,
         };
     }
-    let made = store::push_tree(work, top, kind, id, start, length, first, next);
-    Made {
-        top: top + 10,
-        node: made,
-    }
+    let kids = node_of(high, cells[4]);
+    let size = balance_core::row_size(&*work, kids, count, 3, 0);
+    let own = balance_core::Parent {
+        kind: 1,
+        id: cells[1],
+        start: 0,
+        length: cells[3],
+    };
+    balance_core::balance_range(work, high, low, kids, count, size, 3, 0, own, 0)
 }
 
-// Is a list one tree of this type, start and length?
-fn is_one(work: &[u32], node: u32, kind: u32, id: u32, start: u32, length: u32) -> bool
-    requires { ⌜ Readable (now work) node ⌝ }
-    ensures { λ r. ⌜ r ≡ alone (now (work .entry)) node kind id start length ⌝ }
+// What the call answers.
+pub enum Balanced {
+    // The result stands in the outputs: how many cells and packed words.
+    Cells(usize, usize),
+    // Document 01's number, and the place.
+    Refused(u32, usize),
+}
+
+// 12, 13, or the tree is written out.
+fn write_out(work: &mut [u32], top: u32, root: u32, out: &mut [u32], packed: &mut [u16]) -> Balanced
+    requires { ⌜ ((ts : Trees) × Standing (now work) top root ts) ⌝ }
+    ensures { λ r. ⌜ ((ts : Trees) → Standing (now (work .entry)) top root ts → record { outcome = balanced-outcome r; outputs = now (out .exit) ∷ now (packed .exit) ∷ [] } ≡ settled-tree ts (now (out .entry)) (now (packed .entry))) ⌝ }
 {
-    if node == 0 {
-        return false;
+    let cells = words::index(store::tell(&*work, root, 6));
+    let words = words::index(store::tell(&*work, root, 7));
+    if out.len() / 7 < cells {
+        return Balanced::Refused(12, 0);
     }
-    if word_at(work, node, 5) != 0 {
-        return false;
+    if packed.len() < words {
+        return Balanced::Refused(13, 0);
     }
-    if word_at(work, node, 0) != kind {
-        return false;
-    }
-    if word_at(work, node, 1) != id {
-        return false;
-    }
-    if word_at(work, node, 2) != start {
-        return false;
-    }
-    if word_at(work, node, 3) != length {
-        return false;
-    }
-    true
+    store::write_cells(work, top, root, 0, out, packed);
+    Balanced::Cells(cells, words)
 }
 
-// A tree over a list, before another; where the list is one tree of equal type, start and length, that tree.
-fn join(
+// Balance of accepted cells. Of the work slice the first 96 × items + 96 words are used: at their end the packed words, in front one
+// word and a node of ten words for each cell, between them the nodes that balancing adds.
+fn balance_accepted(
+    cells: &[u32],
+    words: &[u16],
     work: &mut [u32],
-    top: u32,
-    node: u32,
-    kind: u32,
-    id: u32,
-    start: u32,
-    length: u32,
-    next: u32,
-) -> Made
-    requires { ⌜ JoinReady (now work) top node kind id next ⌝ }
-    ensures { λ r. ⌜ Joined (now (work .entry)) (now (work .exit)) top node kind id start length next (r .top) (r .node) ⌝ }
+    out: &mut [u32],
+    packed: &mut [u16],
+) -> Balanced
+    requires { ⌜ Lent (now cells) (now words) (length (now work)) ⌝ }
+    ensures { λ r. ⌜ record { outcome = balanced-outcome r; outputs = now (out .exit) ∷ now (packed .exit) ∷ [] } ≡ settled-tree (balanced (handed-in (now (cells .entry)) (now (words .entry)))) (now (out .entry)) (now (packed .entry)) ⌝ }
 {
-    if is_one(work, node, kind, id, start, length) {
-        return copy(work, top, node, next);
-    }
-    let made = store::push_tree(work, top, kind, id, start, length, node, next);
-    Made {
-        top: top + 10,
-        node: made,
-    }
+    let n = cells.len() / 7;
+    let end = ((n + words.len() / 4) * 96 + 96) as u32;
+    let low = stage_words(words, work, end);
+    note_bases(cells, work);
+    let high = (n * 11) as u32;
+    push_cells(cells, high, low, work);
+    let made = rebuild(cells, high, low, work);
+    write_out(work, made.top, made.node, out, packed)
 }
 
-// A group that waits to be placed: its first node, how many trees, their size, their end.
-pub struct Group {
-    pub node: u32,
-    pub count: u32,
-    pub size: u32,
-    pub end: u32,
-}
+// The most items whose 96 × items + 96 words of work 32-bit words can name.
+const MOST_ITEMS: usize = 44739241;
 
-// The group whose four words stand at `at`.
-fn group_at(work: &[u32], at: u32) -> Group
-    requires { ⌜ at + 4 ≤ length (now work) ⌝ }
-    ensures { λ r. ⌜ GroupAt (now (work .entry)) at (r .node) (r .count) (r .size) (r .end) ⌝ }
-{
-    let n = store::wide(at);
-    Group {
-        node: work[n],
-        count: work[n + 1],
-        size: work[n + 2],
-        end: work[n + 3],
-    }
-}
-
-// Puts a group's four words below the place `stack`: where they stand.
-fn push_group(work: &mut [u32], stack: u32, node: u32, count: u32, size: u32, end: u32) -> u32
-    requires { ⌜ 4 ≤ stack ⌝ }
-    requires { ⌜ stack ≤ length (now work) ⌝ }
-    ensures { λ r. ⌜ r + 4 ≡ stack ⌝ }
-    ensures { λ r. ⌜ now (work .exit) ≡ put (now (work .entry)) r (node ∷ count ∷ size ∷ end ∷ []) ⌝ }
-{
-    let at = stack - 4;
-    let n = store::wide(at);
-    work[n] = node;
-    work[n + 1] = count;
-    work[n + 2] = size;
-    work[n + 3] = end;
-    at
-}
-
-// Lets the groups of a row of k trees wait below the place `stack`, the last one lowest: where they stand.
-fn push_groups(work: &mut [u32], stack: u32, node: u32, k: u32, kind: u32, id: u32, m: u32) -> u32
-    requires { ⌜ PushReady (now work) stack node k kind id m ⌝ }
-    ensures { λ r. ⌜ Pushed (now (work .entry)) (now (work .exit)) stack node k kind id m r ⌝ }
-{
-    let mut sp = stack;
-    let mut at = node;
-    let mut left = k;
-    while left > 0 {
-        let g = first_group(work, at, left, kind, id, m);
-        let count = g.count;
-        let size = g.size;
-        let next = g.next;
-        let end = g.end;
-        sp = push_group(work, sp, at, count, size, end);
-        at = next;
-        left -= count;
-    }
-    sp
-}
-
-// The tree that siblings are put under: its type by kind and id, its start and its length.
-pub struct Parent {
-    pub kind: u32,
-    pub id: u32,
-    pub start: u32,
-    pub length: u32,
-}
-
-// k siblings of this size divided under the share m, before the list `next`. The groups wait below the place `stack` and
-// are placed from the last one back; `left` is the size of those that wait. A lone child above the share gives way to the
-// groups of its children: however deep trees nest, this calls nothing for it.
-fn divide_balanced(
+// Balance: 1, 11, 15, 12, 13; then the cells and words of the balanced tree.
+pub fn balance(
+    types: u32,
+    cells: &[u32],
+    words: &[u16],
     work: &mut [u32],
-    top: u32,
-    stack: u32,
-    node: u32,
-    k: u32,
-    kind: u32,
-    id: u32,
-    m: u32,
-    size: u32,
-    next: u32,
-) -> Made
-    requires { ⌜ DivideReady (now work) top stack node k kind id m size next ⌝ }
-    ensures { λ r. ⌜ Divided (now (work .entry)) (now (work .exit)) top stack node k kind id m size next (r .top) (r .node) ⌝ }
+    out: &mut [u32],
+    packed: &mut [u16],
+) -> Balanced
+    ensures { λ r. ⌜ record { outcome = balanced-outcome r; outputs = now (out .exit) ∷ now (packed .exit) ∷ [] } ≡ balance-call types (now (cells .entry)) (now (words .entry)) (length (now (work .entry))) (now (out .entry)) (now (packed .entry)) ⌝ }
 {
-    let mut high = top;
-    let mut done = next;
-    let mut left = size;
-    let mut sp = push_groups(work, stack, node, k, kind, id, m);
-    while left > 0 {
-        let g = group_at(work, sp);
-        sp += 4;
-        if g.count == 1 {
-            if m < g.size {
-                let kids = word_at(work, g.node, 4);
-                let n = store::tell(work, kids, 8);
-                sp = push_groups(work, sp, kids, n, kind, id, m);
-                left -= 1;
-                continue;
-            }
-            let kept = copy(work, high, g.node, done);
-            high = kept.top;
-            done = kept.node;
-            left -= g.size;
-            continue;
-        }
-        let start = word_at(work, g.node, 2);
-        let length = store::less(g.end, start);
-        let own = Parent {
-            kind: kind,
-            id: id,
-            start: start,
-            length: length,
-        };
-        let made = balance_range(work, high, sp, g.node, g.count, g.size, kind, id, own, done);
-        high = made.top;
-        done = made.node;
-        left -= g.size;
+    if 65536 < types {
+        return Balanced::Refused(1, 0);
     }
-    Made {
-        top: high,
-        node: done,
+    if cells::too_little_work(cells, words, &*work) {
+        return Balanced::Refused(11, 0);
     }
-}
-
-// k siblings of this size, balanced under a parent, before the list `next`.
-pub fn balance_range(
-    work: &mut [u32],
-    top: u32,
-    stack: u32,
-    node: u32,
-    k: u32,
-    size: u32,
-    kind: u32,
-    id: u32,
-    parent: Parent,
-    next: u32,
-) -> Made
-    requires { ⌜ BalanceReady (now work) top stack node k kind id (parent .kind) (parent .id) size next ⌝ }
-    ensures { λ r. ⌜ Balanced (now (work .entry)) (now (work .exit)) top stack node k kind id (parent .kind) (parent .id) (parent .start) (parent .length) size next (r .top) (r .node) ⌝ }
-{
-    let own_kind = parent.kind;
-    let own_id = parent.id;
-    let start = parent.start;
-    let length = parent.length;
-    let m = share_of(size);
-    let made = divide_balanced(work, top, stack, node, k, kind, id, m, size, 0);
-    let high = made.top;
-    let kids = made.node;
-    join(work, high, kids, own_kind, own_id, start, length, next)
-}
-
-// What a tree has gathered: closed groups, the children since then, the last group end.
-pub struct Gathering {
-    pub top: u32,
-    pub groups: u32,
-    pub loose: u32,
-    pub edge: u32,
-}
-
-// The loose children become a group of the id from `start` to the last group end.
-pub fn close_group(work: &mut [u32], id: u32, start: u32, g: Gathering) -> Gathering
-    requires { ⌜ g .top + 10 ≤ length (now work) ⌝ }
-    requires { ⌜ g .top + 10 < 4294967296 ⌝ }
-    requires { ⌜ Readable (now work) (g .groups) ⌝ }
-    requires { ⌜ Readable (now work) (g .loose) ⌝ }
-    ensures { λ r. ⌜ Closed (now (work .entry)) (now (work .exit)) (g .top) id start (g .groups) (g .loose) (g .edge) (r .top) (r .groups) (r .loose) (r .edge) ⌝ }
-{
-    let top = g.top;
-    let loose = g.loose;
-    let groups = g.groups;
-    let length = store::less(g.edge, start);
-    let made = store::push_tree(work, top, 1, id, start, length, loose, groups);
-    Gathering {
-        top: top + 10,
-        groups: made,
-        loose: 0,
-        edge: start,
+    if let words::Found::At(at) = cells::tree_check(cells, words, types, 0, true, work) {
+        return Balanced::Refused(15, at);
     }
+    if MOST_ITEMS < cells.len() / 7 + words.len() / 4 {
+        return Balanced::Refused(12, 0);
+    }
+    balance_accepted(cells, words, work, out, packed)
 }

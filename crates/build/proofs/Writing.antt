@@ -14,18 +14,7 @@ use Rattle.store.specs.Store.{told, Readable, TopReady, TopWrote}
 use Rattle.store.proofs.Frame.{readable, tells-cells, tells-words}
 use Rattle.words.specs.Words.{front}
 use Rattle.build.specs.Building.{Writes, written-tree, written-out}
-
-few-cells : (n m cells words : ℕ) → cells < cell-width * n → room n m cells words ≡ refused 12 0
-unfolding room
-few-cells n m cells words h = rw (lt-ltb cells (cell-width * n) h)
-
-few-words : (n m cells words : ℕ) → cell-width * n ≤ cells → words < m → room n m cells words ≡ refused 13 0
-unfolding room
-few-words n m cells words a h = rw (le-ltb cells (cell-width * n) a, lt-ltb words m h)
-
-enough : (n m cells words : ℕ) → cell-width * n ≤ cells → m ≤ words → room n m cells words ≡ accepted (n ∷ m ∷ [])
-unfolding room
-enough n m cells words a h = rw (le-ltb cells (cell-width * n) a, le-ltb words m h)
+use Rattle.tree.proofs.CallLaws.{cells-short, words-short, room-enough}
 
 whole-nodes : (id S l : ℕ) (kids : Trees) → nodes (tree (some id) S l kids nil) ≡ suc (nodes kids)
 unfolding nodes
@@ -54,7 +43,7 @@ module _ (held : List ℕ) (top kids : ℕ) (q : Writes held top kids) (id S l :
   nodes-is = whole-nodes id S l (q .trees) ∙ sym n-is
 
   pub refuses-cells : length out / 7 < n → record { outcome = refused 12 0; outputs = out ∷ words ∷ [] } ≡ written-out id S l (q .trees) out words
-  refuses-cells h = rw (few-cells (nodes whole) (length (packed whole)) (length out) (length words) (omega (arith, nodes-is)))
+  refuses-cells h = rw (cells-short (nodes whole) (length (packed whole)) (length out) (length words) (omega (arith, nodes-is)))
 
   module _ (fits : n ≤ length out / 7) (m : ℕ) (m-told : m ≡ told held kids 7) where
     m-is : m ≡ length (packed (q .trees))
@@ -67,7 +56,7 @@ module _ (held : List ℕ) (top kids : ℕ) (q : Writes held top kids) (id S l :
     cells-fit = omega (arith, nodes-is)
 
     pub refuses-words : length words < m → record { outcome = refused 13 0; outputs = out ∷ words ∷ [] } ≡ written-out id S l (q .trees) out words
-    refuses-words h = rw (few-words (nodes whole) (length (packed whole)) (length out) (length words) cells-fit (omega (arith, packed-is)))
+    refuses-words h = rw (words-short (nodes whole) (length (packed whole)) (length out) (length words) cells-fit (omega (arith, packed-is)))
 
     module _ (enough-words : m ≤ length words) where
       abbrev readied : TopReady held top kids (length out) (length words)
@@ -93,4 +82,4 @@ module _ (held : List ℕ) (top kids : ℕ) (q : Writes held top kids) (id S l :
           → record { outcome = accepted (n ∷ m ∷ []); outputs = out′ ∷ words′ ∷ [] } ≡ written-out id S l (q .trees) out words
       writes out′ words′ w =
           result-is S whole n m out out′ words words′ (packed (q .trees)) nodes-is packed-is (whole-packed id S l (q .trees)) (w .cells-out readied) (w .words-out readied)
-          (enough (nodes whole) (length (packed whole)) (length out) (length words) cells-fit (omega (arith, packed-is)))
+          (room-enough (nodes whole) (length (packed whole)) (length out) (length words) cells-fit (omega (arith, packed-is)))

@@ -40,7 +40,7 @@ fn length_of(given: Given, start: u32, end: u32) -> u32
 {
     match given {
         Given::Length(length) => length,
-        Given::Last => store::less(end, start),
+        Given::Last => words::less(end, start),
     }
 }
 
@@ -66,7 +66,7 @@ fn read_list(
         end: end,
         floor: 0,
     };
-    let children = balance::Gathering {
+    let children = gathering::Gathering {
         top: (12 * n + 1) as u32,
         groups: 0,
         loose: 0,
@@ -103,8 +103,8 @@ fn write_result(
     ensures { λ r. ⌜ ((q : Writes (now (work .entry)) (first .top) (first .kids)) → record { outcome = built-outcome r; outputs = now (cells .exit) ∷ now (words .exit) ∷ [] } ≡ written-out id start length (q .trees) (now (cells .entry)) (now (words .entry))) ⌝ }
 {
     let kids = first.kids;
-    let count = store::wide(store::tell(&*work, kids, 6)) + 1;
-    let packed = store::wide(store::tell(&*work, kids, 7));
+    let count = words::index(store::tell(&*work, kids, 6)) + 1;
+    let packed = words::index(store::tell(&*work, kids, 7));
     if cells.len() / 7 < count {
         return Built::Refused(12, 0);
     }

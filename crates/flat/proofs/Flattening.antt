@@ -13,7 +13,7 @@ use Rattle.tree.specs.Flat.{Record, rec, flattened, flat-part, hold, limit, end
 use Rattle.tree.proofs.ItemLaws.{sorted-flattened}
 use Rattle.store.specs.Store.{Same, Readable}
 use Rattle.store.proofs.Frame.{same-less, frame, readable}
-use Rattle.balance.specs.Ready.{HoldsGathered}
+use Rattle.gathering.specs.Gathering.{HoldsGathered}
 use Rattle.cursor.proofs.Spelled.{spells-count}
 use Rattle.gathering.specs.Gathering.{due, PassedOver}
 use Rattle.gathering.proofs.Due.{due-pass}

@@ -7,17 +7,15 @@ use native.Mathlib.Nat.{le-refl}
 use lib.ListN.{length, getD}
 use Rattle.tree.specs.Flat.{Record, rec, hold, flat-words}
 use Rattle.store.specs.Store.{Same, Staged, StagedMore}
+use Rattle.store.proofs.Frame.{same-less, same-then}
 use Rattle.flat.specs.Back.{record-at, held-in}
 use Rattle.flat.specs.Parts.{RecordReady, StagedRecord, StageReady, StagedFlat}
 use Rattle.flat.proofs.Back.{hold-none, hold-one, held-none, held-one, held-step, held-split, short-split}
 use Rattle.tree.specs.Well.{Short}
 
 pub same-down : (l l₁ l₂ : List ℕ) (b a low : ℕ) → b ≤ a → a ≤ low → Same l l₁ 0 a low → Same l₁ l₂ 0 b a → Same l l₂ 0 b low
-same-down l l₁ l₂ b a low h k s t = record {
-  size = t .size ∙ s .size;
-  below = λ j x y. t .below j x y ∙ s .below j x (omega arith);
-  above = λ j x. t .above j (omega arith) ∙ s .above j x;
-}
+same-down l l₁ l₂ b a low h k s t =
+    same-then l l₁ l₂ 0 b low (same-less l l₁ 0 a low 0 b low (omega arith) h (omega arith) s) (same-less l₁ l₂ 0 b a 0 b low (omega arith) (omega arith) k t)
 
 -- four words
 module _ (w l l₁ l₂ l₃ l₄ : List ℕ) (j q index low from to id v₁ v₂ a b c r : ℕ) where

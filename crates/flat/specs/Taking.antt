@@ -8,7 +8,7 @@ use Rattle.tree.specs.Items.{Items}
 use Rattle.tree.specs.Groups.{Gathered}
 use Rattle.tree.specs.Flat.{flattened, flat}
 use Rattle.store.specs.Store.{Same}
-use Rattle.balance.specs.Ready.{HoldsGathered}
+use Rattle.gathering.specs.Gathering.{HoldsGathered}
 use Rattle.gathering.specs.Gathering.{due}
 use Rattle.cursor.specs.Spells.{Stands}
 use Rattle.tree.specs.Ordered.{Fits}

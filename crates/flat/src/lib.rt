@@ -80,7 +80,7 @@ fn flat_extent(records: &[u32], p: usize, lo: usize, bound: u32) -> Extent
             x = dropped(x, q);
             continue;
         }
-        if records::start_at(records, q) < store::less(x.end, bound) {
+        if records::start_at(records, q) < words::less(x.end, bound) {
             return x;
         }
         x = held(x, q, records::end_at(records, q));
@@ -100,8 +100,8 @@ fn stage_record(
     requires { ⌜ RecordReady (now records) (now work) i start index low ⌝ }
     ensures { λ r. ⌜ StagedRecord (now (records .entry)) (now (work .entry)) (now (work .exit)) i start index low r ⌝ }
 {
-    let from = store::less(records::start_at(records, i), start);
-    let to = store::less(records::end_at(records, i), start);
+    let from = words::less(records::start_at(records, i), start);
+    let to = words::less(records::end_at(records, i), start);
     let id = records::id_at(records, i);
     let third = store::stage(work, low, index as u16);
     let second = store::stage(work, third, to as u16);
@@ -176,7 +176,7 @@ fn push_flat(
 {
     let count = x.count;
     let start = records::start_at(records, x.first);
-    let length = store::less(x.end, start);
+    let length = words::less(x.end, start);
     if is_lone_long(count, length) {
         let id = records::id_at(records, x.first);
         let made = store::push_tree(work, top, 1, id, start, length, 0, loose);
@@ -226,7 +226,7 @@ fn take_flat_node(
 // What a tree has gathered, and where the staged words begin.
 pub struct Flattened {
     pub low: u32,
-    pub g: balance::Gathering,
+    pub g: gathering::Gathering,
 }
 
 // The records from lo up to p, below a tree deeper than 2,500: its own id's records are passed over, the others go to flat parts.
@@ -238,7 +238,7 @@ pub fn take_flat(
     bound: u32,
     work: &mut [u32],
     low: u32,
-    g: balance::Gathering,
+    g: gathering::Gathering,
 ) -> Flattened
     requires { ⌜ FlatReady (now records) (now work) p lo (own-of own) bound (g .top) low (g .groups) (g .loose) (g .edge) ⌝ }
     ensures { λ r. ⌜ TakenFlat (now (records .entry)) (now (work .entry)) (now (work .exit)) p lo (own-of own) bound (g .top) low (g .groups) (g .loose) (g .edge) (r .g .top) (r .low) (r .g .groups) (r .g .loose) (r .g .edge) ⌝ }
@@ -260,7 +260,7 @@ pub fn take_flat(
         below = node.low;
         let groups = h.groups;
         let edge = h.edge;
-        h = balance::Gathering {
+        h = gathering::Gathering {
             top: node.top,
             groups: groups,
             loose: node.loose,

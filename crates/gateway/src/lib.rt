@@ -161,13 +161,13 @@ pub extern "C" fn hulwyth_balance(
 ) -> u32
     ensures { λ r. ⌜ record { number = r; info = now (info .exit); outputs = now (out .exit) ∷ now (packed .exit) ∷ [] } ≡ told-result 2 (balance-call types (now (cells .entry)) (now (words .entry)) (length (now (work .entry))) (now (out .entry)) (now (packed .entry))) (now (info .entry)) ⌝ }
 {
-    let answer = balancing::balance(types, cells, words, work, out, packed);
+    let answer = balance::balance(types, cells, words, work, out, packed);
     match answer {
-        balancing::Balanced::Cells(count, second) => {
+        balance::Balanced::Cells(count, second) => {
             tell(info, &[0, count, second]);
             return 0;
         }
-        balancing::Balanced::Refused(number, place) => {
+        balance::Balanced::Refused(number, place) => {
             tell(info, &[place, 0, 0]);
             return number;
         }

@@ -4,7 +4,7 @@ use Prim.Native.Nat.{ℕ, _+_, _≤_}
 use native.Mathlib.Omega.{arith}
 use Rattle.tree.specs.Trees.{Trees, nil, tree, part}
 use Rattle.tree.proofs.WellLaws.{well-≤}
-use Rattle.balance.specs.Rows.{Ends}
+use Rattle.balance_core.specs.Rows.{Ends}
 use Rattle.tree.specs.Well.{Well}
 
 module _ (T : ℕ) (Inside : ℕ → ℕ → List ℕ → Type 0) where

@@ -19,9 +19,9 @@ use Rattle.tree.proofs.OwnLaws.{total-rest-closed}
 use Rattle.tree.proofs.WellLaws.{well-rest-closed}
 use Rattle.store.specs.Store.{Readable, told, PushedTree}
 use Rattle.store.proofs.Frame.{same-less, frame, readable, tells-trees}
-use Rattle.balance.specs.Rows.{Row}
-use Rattle.balance.specs.Ready.{BalanceReady, Balanced}
-use Rattle.balance.proofs.Lists.{siblings-total}
+use Rattle.balance_core.specs.Rows.{Row}
+use Rattle.balance_core.specs.Ready.{BalanceReady, Balanced}
+use Rattle.balance_core.proofs.Lists.{siblings-total}
 use Rattle.gathering.specs.Gathering.{due, RestClosed, GroupsReady, GroupsBalanced, FinishReady, Finished}
 use Rattle.gathering.proofs.Due.{total-closed}
 use Rattle.gathering.proofs.Ends.{ends-well}

@@ -6,7 +6,7 @@ use Rattle.tree.specs.Trees.{Trees}
 use Rattle.tree.specs.Groups.{Gathered, fresh, gather}
 use Rattle.store.specs.Store.{Holds, Same}
 use Rattle.store.proofs.Frame.{frame}
-use Rattle.balance.specs.Ready.{HoldsGathered}
+use Rattle.gathering.specs.Gathering.{HoldsGathered}
 
 pub gathered-fresh : (w : List ℕ) (base top low e : ℕ) → HoldsGathered w base top low 0 0 e (fresh e)
 unfolding fresh

@@ -3,3 +3,4 @@ pub mod Ends
 pub mod Passing
 pub mod Finishing
 pub mod Holding
+pub mod Closing

@@ -8,8 +8,7 @@ use borrow.Author.Tests.{le-leb, lt-leb}
 use Rattle.tree.specs.Trees.{Trees, nil, tree, part, is-nil}
 use Rattle.tree.specs.Groups.{Gathered, close, pass, rest-closed}
 use Rattle.store.specs.Store.{Holds, Same}
-use Rattle.balance.specs.Ready.{Closed}
-use Rattle.gathering.specs.Gathering.{PassedOver, RestClosed}
+use Rattle.gathering.specs.Gathering.{Closed, PassedOver, RestClosed}
 
 -- an address is 0 where there is no tree
 pub none-at : (w : List ℕ) (base top low n : ℕ) (ts : Trees) → Holds w base top low n ts → n ≡ 0 → ts ≡ nil

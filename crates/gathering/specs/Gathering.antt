@@ -1,4 +1,4 @@
--- What passing over a record and finishing a tree ask of a store and leave in it. Nothing here is needed to read what a call
+-- What a tree has gathered, in a store; what passing over a record and finishing a tree ask of it and leave in it. Nothing here is needed to read what a call
 -- promises.
 use mathlib.Core.Path.{_≡_}
 use mathlib.Core.Bool.{false}
@@ -8,12 +8,24 @@ use Prim.Native.Nat.{ℕ, _+_, _-_, _*_, _≤_, _<_}
 use lib.ListN.{length}
 use Rattle.tree.specs.Trees.{Trees, nil, _⊕_, is-nil}
 use Rattle.tree.specs.Items.{repeats}
-use Rattle.tree.specs.Groups.{Gathered, pass, rest-closed, finish}
+use Rattle.tree.specs.Groups.{Gathered, close, pass, rest-closed, finish}
 use Rattle.tree.specs.Balance.{total, balance}
 use Rattle.store.specs.Store.{Holds, Same}
-use Rattle.balance.specs.Rows.{Ends}
-use Rattle.balance.specs.Ready.{HoldsGathered}
+use Rattle.balance_core.specs.Rows.{Ends}
 use Rattle.tree.specs.Well.{own-total, Parts, Gathers}
+
+-- what a tree has gathered: the addresses of its two lists, and the last group end
+pub record HoldsGathered (w : List ℕ) (base top low groups loose edge : ℕ) (g : Gathered) : Type 0 where
+  pub groups-at : Holds w base top low groups (g .groups)
+  pub loose-at : Holds w base top low loose (g .loose)
+  pub edge-is : g .edge ≡ edge
+
+-- the loose children became a group
+pub record Closed (w w′ : List ℕ) (top i s groups loose edge rtop rgroups rloose redge : ℕ) : Type 0 where
+  pub top-is : rtop ≡ top + 10
+  pub kept : Same w w′ 0 top (top + 10)
+  pub holds : (base low : ℕ) (g : Gathered) → 0 < base → base ≤ top → top + 10 ≤ low → HoldsGathered w base top low groups loose edge g
+      → HoldsGathered w′ base (top + 10) low rgroups rloose redge (close i s g)
 
 -- the balanced size that what is gathered may come to under the repeat id `own`, but for a last group
 unfoldable pub due : (own : Option ℕ) → Gathered → ℕ

@@ -11,23 +11,6 @@ ghost use Rattle.rules.specs.Calls.{materialise-call};
 ghost use Rattle.materialize.specs.Answer.{materialized-outcome};
 ghost use Rattle.materialize.specs.Steps.{ended, first-link, next-link, Taken, Put, Open, Moved, inner-count, Packed, Unpacked, trees-left, cells-before, Next-cell, Next-part, Next, Wrote, Ready, weight, unpacked, ahead};
 
-// A word as an index.
-fn wide(x: u32) -> usize
-    ensures { λ r. ⌜ r ≡ x ⌝ }
-{
-    x as usize
-}
-
-// a - b, or 0 where b is larger.
-fn less(a: u32, b: u32) -> u32
-    ensures { λ r. ⌜ r ≡ a - b ⌝ }
-{
-    if a < b {
-        return 0;
-    }
-    a - b
-}
-
 // Seven words from an index on.
 fn put_cell(
     out: &mut [u32],
@@ -61,7 +44,7 @@ fn end_links(work: &[u32], kept: usize, sp: usize, out: &mut [u32])
     if sp <= kept {
         return;
     }
-    out[wide(work[kept]) * 7 + 6] = 0;
+    out[words::index(work[kept]) * 7 + 6] = 0;
 }
 
 // A cell's link to its first child.
@@ -134,28 +117,14 @@ fn hand_over(
 {
     let mut left = sp;
     while low < left {
-        let root = wide(work[left - 1]);
+        let root = words::index(work[left - 1]);
         if limit <= root {
             return left;
         }
-        out[root * 7 + 2] = less(out[root * 7 + 2], start);
+        out[root * 7 + 2] = words::less(out[root * 7 + 2], start);
         left -= 1;
     }
     left
-}
-
-// A packed word as an index.
-fn index(x: u16) -> usize
-    ensures { λ r. ⌜ Widened x r ⌝ }
-{
-    x as usize
-}
-
-// A packed word at the width of a cell's.
-fn word(x: u16) -> u32
-    ensures { λ r. ⌜ r ≡ x ⌝ }
-{
-    x as u32
 }
 
 // How many records stand in one, by its end index and its offset.
@@ -187,9 +156,9 @@ fn unpack_part(
     while 0 < i {
         i -= 1;
         let at = i * 4;
-        let start = position + word(part[at + 1]);
-        let len = less(word(part[at + 2]), word(part[at + 1]));
-        let limit = cell + i + 1 + inside(index(part[at + 3]), at);
+        let start = position + words::word(part[at + 1]);
+        let len = words::less(words::word(part[at + 2]), words::word(part[at + 1]));
+        let limit = cell + i + 1 + inside(words::wide(part[at + 3]), at);
         let kept = hand_over(&*work, sp, left, limit, start, out);
         push(
             work,
@@ -198,7 +167,7 @@ fn unpack_part(
             out,
             cell + i,
             1,
-            word(part[at]),
+            words::word(part[at]),
             start,
             len,
         );
@@ -232,7 +201,7 @@ fn staying(work: &[u32], total: usize, trees: usize, marks: usize, left: usize) 
     if marks <= left {
         return trees;
     }
-    wide(work[total + left])
+    words::index(work[total + left])
 }
 
 // Writes the cell i, a tree, before the siblings behind it: as many as it counts are its children.
@@ -249,7 +218,7 @@ fn place_tree(
     requires { ⌜ Next-cell (now work) (now out) (now cells) total i cell trees marks ⌝ }
     ensures { λ r. ⌜ ((ws : List ℕ) → Wrote (now (work .entry)) (now (work .exit)) (now (out .entry)) (now (out .exit)) (now (cells .entry)) ws total i cell trees marks (r .cell) (r .trees) (r .marks)) ⌝ }
 {
-    let left = below(marks, wide(cells[i * 7 + 5]));
+    let left = below(marks, words::index(cells[i * 7 + 5]));
     let kept = staying(&*work, total, trees, marks, left);
     push(
         work,
@@ -285,8 +254,8 @@ fn place_part(
     requires { ⌜ Next-part (now work) (now out) (now cells) (now words) total i cell trees marks ⌝ }
     ensures { λ r. ⌜ Wrote (now (work .entry)) (now (work .exit)) (now (out .entry)) (now (out .exit)) (now (cells .entry)) (now (words .entry)) total i cell trees marks (r .cell) (r .trees) (r .marks) ⌝ }
 {
-    let from = wide(cells[i * 7 + 4]);
-    let count = wide(cells[i * 7 + 5]);
+    let from = words::index(cells[i * 7 + 4]);
+    let count = words::index(cells[i * 7 + 5]);
     let part = &words[from..from + count];
     let first = cell - count / 4;
     let top = unpack_part(part, cells[i * 7 + 2], work, trees, out, first);
@@ -342,7 +311,7 @@ fn cell_weight(kind: u32, count: u32) -> usize
     ensures { λ r. ⌜ r ≡ weight kind count ⌝ }
 {
     if kind == 2 {
-        return wide(count) / 4;
+        return words::index(count) / 4;
     }
     1
 }

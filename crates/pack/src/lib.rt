@@ -119,7 +119,7 @@ fn copy_nodes(records: &[u32], floor: usize, first_repeat: u32, start: u32, part
 }
 
 // Stages the words of a run below `low`, and answers the lowest of them.
-pub fn pack_node(
+fn pack_node(
     records: &[u32],
     p: usize,
     first_repeat: u32,

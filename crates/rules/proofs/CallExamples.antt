@@ -12,7 +12,7 @@ use Rattle.tree.specs.Materialise.{within, beyond, unpack, materialise}
 use Rattle.tree.specs.Balance.{balanced}
 use Rattle.tree.specs.Listing.{node-line, node-below, listing, lines}
 use Rattle.tree.specs.Cells.{relative, absolute, packed, unless-none, kind, id-word, cells, leading, following, cell-tree, decode-from, decode, tree-cells}
-use Rattle.tree.specs.Calls.{written, materialise-cells, balance-cells, list-cells}
+use Rattle.tree.specs.Calls.{room, written, materialise-cells, balance-cells, list-cells}
 use Rattle.rules.specs.Cell.{cells-of, first-child}
 use Rattle.rules.specs.PartLowest.{still, earliest, bound, ranges, part-kept}
 use Rattle.rules.specs.Lowest.{chain, chains, any-part, named, top-broken, kind-broken, id-broken, link-broken, count-broken, place-broken, order-broken, inside-broken, end-broken, part-broken, stray-broken, any-of, broken, next-named, first-named, words-end, lowest-from, top-named, bad-cell}
@@ -20,11 +20,11 @@ use Rattle.rules.specs.Calls.{items, unless-bad, result-room, lines-room
 
 -- the calls with all that it takes to compute them
 unfoldable pub materialised : (T : ℕ) (cs ws : List ℕ) (work : ℕ) (out : List ℕ) → Result
-unfolding bad-cell cells-of first-child chain chains any-part named top-broken kind-broken id-broken link-broken count-broken place-broken order-broken inside-broken end-broken part-broken stray-broken any-of broken next-named first-named words-end lowest-from top-named part-kept ranges bound earliest still part-check faults-from fault own-fault crosses items unless-bad result-room handed-in materialise-call _⊕_ nodes within beyond unpack materialise relative absolute packed unless-none kind id-word cells leading following cell-tree decode-from decode tree-cells siblings materialise-cells
+unfolding bad-cell cells-of first-child chain chains any-part named top-broken kind-broken id-broken link-broken count-broken place-broken order-broken inside-broken end-broken part-broken stray-broken any-of broken next-named first-named words-end lowest-from top-named part-kept ranges bound earliest still part-check faults-from fault own-fault crosses items unless-bad result-room room handed-in materialise-call _⊕_ nodes within beyond unpack materialise relative absolute packed unless-none kind id-word cells leading following cell-tree decode-from decode tree-cells siblings materialise-cells
 materialised T cs ws work out = materialise-call T cs ws work out
 
 unfoldable balances : (T : ℕ) (cs ws : List ℕ) (work : ℕ) (out words : List ℕ) → Result
-unfolding bad-cell cells-of first-child chain chains any-part named top-broken kind-broken id-broken link-broken count-broken place-broken order-broken inside-broken end-broken part-broken stray-broken any-of broken next-named first-named words-end lowest-from top-named part-kept ranges bound earliest still part-check faults-from fault own-fault crosses items unless-bad result-room handed-in balance-room balance-call nodes relative absolute packed unless-none kind id-word cells leading following cell-tree decode-from decode tree-cells siblings balanced balance-cells written
+unfolding bad-cell cells-of first-child chain chains any-part named top-broken kind-broken id-broken link-broken count-broken place-broken order-broken inside-broken end-broken part-broken stray-broken any-of broken next-named first-named words-end lowest-from top-named part-kept ranges bound earliest still part-check faults-from fault own-fault crosses items unless-bad result-room room handed-in balance-room balance-call nodes relative absolute packed unless-none kind id-word cells leading following cell-tree decode-from decode tree-cells siblings balanced balance-cells written
 balances T cs ws work out words = balance-call T cs ws work out words
 
 unfoldable pub listed : (T F S : ℕ) (cs : List ℕ) (work : ℕ) (out : List ℕ) → Result

@@ -20,6 +20,7 @@ use Rattle.tree.specs.Calls.{Written, build-cells, materialise-cells, balance-c
 use Rattle.rules.specs.Lowest.{bad-cell}
 use Rattle.rules.specs.Calls.{line-width, items, unless-bad, result-room, lines-room, handed-in, materialise-call, most-items, balance-room, balance-call, list-call}
 use Rattle.rules.proofs.Accepted.{build-accepted, materialise-accepted}
+use Rattle.tree.proofs.CallLaws.{cells-short, words-short, room-enough}
 
 -- the refusals that all tree calls have
 module _ (T S : ℕ) (parts : Bool) (cs ws : List ℕ) (work : ℕ) (next : Outcome) where
@@ -48,15 +49,15 @@ unnumbered-cells n w cells words h = rw (lt-ltb 4294967295 n h)
 
 pub few-cells : (n w cells words : ℕ) → n ≤ 4294967295 → cells < cell-width * n → result-room n w cells words ≡ refused 12 0
 unfolding result-room
-few-cells n w cells words m h = rw (le-ltb 4294967295 n m, lt-ltb cells (cell-width * n) h)
+few-cells n w cells words m h = rw (le-ltb 4294967295 n m) (cells-short n w cells words h)
 
 pub few-words : (n w cells words : ℕ) → n ≤ 4294967295 → cell-width * n ≤ cells → words < w → result-room n w cells words ≡ refused 13 0
 unfolding result-room
-few-words n w cells words m h k = rw (le-ltb 4294967295 n m, le-ltb cells (cell-width * n) h, lt-ltb words w k)
+few-words n w cells words m h k = rw (le-ltb 4294967295 n m) (words-short n w cells words h k)
 
 pub enough : (n w cells words : ℕ) → n ≤ 4294967295 → cell-width * n ≤ cells → w ≤ words → result-room n w cells words ≡ accepted (n ∷ w ∷ [])
 unfolding result-room
-enough n w cells words m h k = rw (le-ltb 4294967295 n m, le-ltb cells (cell-width * n) h, le-ltb words w k)
+enough n w cells words m h k = rw (le-ltb 4294967295 n m) (room-enough n w cells words h k)
 
 pub many-items : (cs ws : List ℕ) (cells words : ℕ) → most-items < items cs ws → balance-room cs ws cells words ≡ refused 12 0
 unfolding balance-room

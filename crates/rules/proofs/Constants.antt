@@ -8,6 +8,7 @@ use native.Mathlib.Omega.{arith}
 use Rattle.words.specs.Outcome.{accepted, refused}
 use Rattle.rules.specs.Calls.{result-room, lines-room, most-items}
 use Rattle.rules.proofs.CallExamples.{materialised, listed}
+use Rattle.tree.specs.Calls.{room}
 
 -- a top of id 65,535 alone
 abbrev pub top-alone : List ℕ
@@ -36,7 +37,7 @@ pub cell-limits :
     (result-room 4294967295 0 30064771065 0 ≡ accepted (4294967295 ∷ 0 ∷ [])) × (result-room 4294967295 0 30064771064 0 ≡ refused 12 0)
     × (result-room 4294967296 0 30064771072 0 ≡ refused 12 0)
     × (result-room 1 5 7 5 ≡ accepted (1 ∷ 5 ∷ [])) × (result-room 1 5 7 4 ≡ refused 13 0)
-unfolding result-room
+unfolding result-room room
 cell-limits = (refl, refl, refl, refl, refl)
 
 -- "14": four words a line

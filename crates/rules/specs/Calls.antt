@@ -12,7 +12,7 @@ use Rattle.tree.specs.Trees.{Trees, nodes}
 use Rattle.tree.specs.Materialise.{materialise}
 use Rattle.tree.specs.Balance.{balanced}
 use Rattle.tree.specs.Cells.{cell-width, absolute, decode}
-use Rattle.tree.specs.Calls.{materialise-cells, balance-cells, list-cells}
+use Rattle.tree.specs.Calls.{room, materialise-cells, balance-cells, list-cells}
 use Rattle.rules.specs.Lowest.{bad-cell}
 
 -- "listing lines (four words each)"
@@ -31,15 +31,11 @@ unless-bad T S parts cs ws work next =
     (cond (ltb work (96 * items cs ws + 96)) (refused 11 0)
     (unless-found 15 (λ c. c) (bad-cell T S parts cs ws) next))
 
--- "12, 13: too little space for the result's cells (seven words each), packed words": of a result of n cells and w words, in slices
--- of `cells` and `words` words; else the counts. Cells are named by 32-bit words. A result of more cells than these can number has no
--- cells at all, so no slice has the space for it: 12.
+-- 12 and 13 of a result of n cells and w words, in slices of `cells` and `words` words; else the counts. Cells are named by 32-bit
+-- words. A result of more cells than these can number has no cells at all, so no slice has the space for it: 12.
 unfoldable pub result-room : (n w cells words : ℕ) → Outcome
 result-room n w cells words =
-    cond (ltb 4294967295 n) (refused 12 0)
-    (cond (ltb cells (cell-width * n)) (refused 12 0)
-    (cond (ltb words w) (refused 13 0)
-    (accepted (n ∷ w ∷ []))))
+    cond (ltb 4294967295 n) (refused 12 0) (room n w cells words)
 
 -- "14: too little space for the result's listing lines": of lines of n words in all, in a slice of `out` words; else their count
 unfoldable pub lines-room : (n out : ℕ) → Outcome

@@ -47,7 +47,7 @@ room-fits k w cells words n m h =
     (omega arith, omega arith)
 
 result-fits : (k cells n m : ℕ) → result-room k 0 cells 0 ≡ accepted (n ∷ m ∷ []) → cell-width * n ≤ cells
-unfolding result-room
+unfolding result-room room
 result-fits k cells n m h =
     let one = passed (ltb 4294967295 k) 12 0 _ _ h in
     let two = passed (ltb cells (cell-width * k)) 12 0 _ _ (one .1) in

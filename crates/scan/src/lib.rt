@@ -67,16 +67,6 @@ pub fn count_repeats(records: &[u32], first_repeat: u32, work: &mut [u32])
     }
 }
 
-// a - b, or 0 where b is larger.
-fn less(a: u32, b: u32) -> u32
-    ensures { λ r. ⌜ r ≡ a - b ⌝ }
-{
-    if a < b {
-        return 0;
-    }
-    a - b
-}
-
 // The smaller of two.
 fn least_of(a: u32, b: u32) -> u32
     ensures { λ r. ⌜ r ≡ min a b ⌝ }
@@ -196,7 +186,7 @@ pub fn find_buffer_size(
     ensures { λ r. ⌜ ((F i s e : ℕ) (kids rest : Items) → Scans F (own-of own) (now (records .entry)) (now (work .entry)) lo at bound memo i s e kids rest → Found F at (e - bound) i s e kids rest (run-from F bound (own-of own) i s e kids rest) r) ⌝ }
 {
     let first = at - 1;
-    let least = less(end_at(records, first), bound);
+    let least = words::less(end_at(records, first), bound);
     let from = resume(at as u32, memo);
     let mut p = from.place as usize;
     let mut start = from.start;

@@ -25,6 +25,14 @@ same-less w w′ base top low base′ top′ low′ a b c s = record {
   above = λ j l. s .above j (omega arith);
 }
 
+-- words that stay twice
+pub same-then : (w w₁ w′ : List ℕ) (base top low : ℕ) → Same w w₁ base top low → Same w₁ w′ base top low → Same w w′ base top low
+same-then w w₁ w′ base top low a b = record {
+  size = b .size ∙ a .size;
+  below = λ j h m. b .below j h m ∙ a .below j h m;
+  above = λ j h. b .above j h ∙ a .above j h;
+}
+
 pub same-put : (w : List ℕ) (at : ℕ) (vs : List ℕ) → at + length vs ≤ length w → Same w (put w at vs) 0 at (at + length vs)
 same-put w at vs h = record {
   size = put-length w at vs h;

@@ -11,13 +11,6 @@ ghost use mathlib.Core.Bool.{cond};
 ghost use Rattle.words.specs.Words.{put};
 ghost use Rattle.store.specs.Store.{told, liked, liked-on, word, Readable, PushedTree, PushedPart, StagedMore, tree-cell, part-cell, PartReady, PartWritten, Writable, Wrote, TopReady, TopWrote};
 
-// A 32-bit word as an index.
-pub fn wide(x: u32) -> usize
-    ensures { λ r. ⌜ r ≡ x ⌝ }
-{
-    x as usize
-}
-
 // Ten words from an address on.
 fn put_node(
     work: &mut [u32],
@@ -57,7 +50,7 @@ pub fn tell(work: &[u32], node: u32, k: usize) -> u32
     if node == 0 {
         return 0;
     }
-    work[wide(node) + k]
+    work[words::index(node) + k]
 }
 
 // A sum, at most the largest word.
@@ -78,7 +71,7 @@ pub fn like(work: &[u32], node: u32, kind: u32, id: u32) -> u32
     if node == 0 {
         return 1;
     }
-    let n = wide(node);
+    let n = words::index(node);
     if work[n] == kind {
         if work[n + 1] == id {
             return work[n + 9];
@@ -132,7 +125,7 @@ pub fn push_tree(
     let own = like_on(size, like(work, next, kind, id));
     put_node(
         work,
-        wide(top),
+        words::index(top),
         kind,
         id,
         start,
@@ -166,7 +159,7 @@ pub fn push_part(
     let trees = sum(tell(work, next, 8), 1);
     put_node(
         work,
-        wide(top),
+        words::index(top),
         2,
         count,
         start,
@@ -188,18 +181,8 @@ pub fn stage(work: &mut [u32], low: u32, x: u16) -> u32
     ensures { λ r. ⌜ StagedMore (now (work .entry)) (now (work .exit)) low x r ⌝ }
 {
     let at = low - 1;
-    work[wide(at)] = x as u32;
+    work[words::index(at)] = x as u32;
     at
-}
-
-// a - b, or 0 where b is larger.
-pub fn less(a: u32, b: u32) -> u32
-    ensures { λ r. ⌜ r ≡ a - b ⌝ }
-{
-    if a < b {
-        return 0;
-    }
-    a - b
 }
 
 // A cell's number as a link, 0 where there is no node.
@@ -263,8 +246,8 @@ fn write_tree(work: &[u32], n: usize, from: u32, out: &mut [u32], cell: usize)
     let below = tell(work, kids, 6);
     let first = link(kids, cell + 2);
     let count = tell(work, kids, 8);
-    let next = link(work[n + 5], cell + 2 + wide(below));
-    let start = less(work[n + 2], from);
+    let next = link(work[n + 5], cell + 2 + words::index(below));
+    let start = words::less(work[n + 2], from);
     put_cell(
         out,
         cell * 7,
@@ -291,10 +274,10 @@ fn write_part(
     requires { ⌜ PartReady (now work) n cell (length (now out)) word (length (now words)) ⌝ }
     ensures { λ r. ⌜ PartWritten (now (work .entry)) n from cell word (now (out .entry)) (now (out .exit)) (now (words .entry)) (now (words .exit)) r ⌝ }
 {
-    let count = wide(work[n + 1]);
-    copy_words(work, wide(work[n + 4]), count, words, word);
+    let count = words::index(work[n + 1]);
+    copy_words(work, words::index(work[n + 4]), count, words, word);
     let next = link(work[n + 5], cell + 2);
-    let start = less(work[n + 2], from);
+    let start = words::less(work[n + 2], from);
     put_cell(
         out,
         cell * 7,
@@ -330,7 +313,7 @@ pub fn write_cells(
     requires { ⌜ Writable (now work) top root (length (now out)) (length (now words)) ⌝ }
     ensures { λ _. ⌜ Wrote (now (work .entry)) top root start (now (out .entry)) (now (out .exit)) (now (words .entry)) (now (words .exit)) ⌝ }
 {
-    let bottom = wide(top);
+    let bottom = words::index(top);
     let mut at = root;
     let mut from = start;
     let mut sp = bottom;
@@ -346,7 +329,7 @@ pub fn write_cells(
             sp -= 2;
             continue;
         }
-        let n = wide(at);
+        let n = words::index(at);
         let next = work[n + 5];
         if work[n] == 2 {
             let count = write_part(work, n, from, out, cell, words, word);

@@ -18,8 +18,8 @@ use Rattle.tree.proofs.ShortLaws.{room-none}
 use Rattle.tree.proofs.WellLaws.{gathers-fresh}
 use Rattle.tree.proofs.WellBuild.{gathers-tree, gathers-flat}
 use Rattle.store.specs.Store.{Same}
-use Rattle.store.proofs.Frame.{same-less, frame}
-use Rattle.balance.specs.Ready.{HoldsGathered}
+use Rattle.store.proofs.Frame.{same-less, frame, same-then}
+use Rattle.gathering.specs.Gathering.{HoldsGathered}
 use Rattle.cursor.specs.Spells.{Stands}
 use Rattle.cursor.proofs.Spelled.{stands-inside, stands-beyond}
 use Rattle.cursor.proofs.Own.{repeats-plain}
@@ -33,7 +33,6 @@ use Rattle.take.specs.Going.{deep, own-under, Level, Going}
 use Rattle.take.specs.Steps.{Deepens, Deepened}
 use Rattle.take.specs.declared.Node.{Node}
 use Rattle.take.specs.declared.State.{State}
-use Rattle.take.proofs.Levels.{same-then}
 use Rattle.take.proofs.Steps.{going-on}
 use Rattle.take.proofs.Opening.{walk-deep}
 use Rattle.tree.specs.Well.{Parts}

@@ -8,28 +8,12 @@ use lib.ListN.{length, getD}
 use Rattle.tree.specs.Items.{Items}
 use Rattle.tree.specs.Groups.{Gathered}
 use Rattle.store.specs.Store.{Same}
-use Rattle.store.proofs.Frame.{frame}
-use Rattle.balance.specs.Ready.{HoldsGathered}
+use Rattle.gathering.proofs.Holding.{gathered-frame}
 use Rattle.scan.specs.Counted.{Counted}
 use Rattle.scan.specs.declared.Memo.{Memo}
 use Rattle.take.specs.Going.{Outer, Level, Frames, memo-at}
 
--- words that stay twice
-pub same-then : (l l₁ l′ : List ℕ) (base top low : ℕ) → Same l l₁ base top low → Same l₁ l′ base top low → Same l l′ base top low
-same-then l l₁ l′ base top low a b = record {
-  size = b .size ∙ a .size;
-  below = λ j h m. b .below j h m ∙ a .below j h m;
-  above = λ j h. b .above j h ∙ a .above j h;
-}
-
 module _ (l l′ : List ℕ) (base top low top′ low′ : ℕ) (up : top ≤ top′) (down : low′ ≤ low) (same : Same l l′ base top low) where
-  pub gathered-stays : (groups loose edge : ℕ) (g : Gathered) → HoldsGathered l base top low groups loose edge g → HoldsGathered l′ base top′ low′ groups loose edge g
-  gathered-stays groups loose edge g h = record {
-    groups-at = frame l l′ base top low top′ low′ up down same groups (g .groups) (h .groups-at);
-    loose-at = frame l l′ base top low top′ low′ up down same loose (g .loose) (h .loose-at);
-    edge-is = h .edge-is;
-  }
-
   module _ (F T b : ℕ) (w : List ℕ) where
     pub level-stays : (own : Option ℕ) (lo p : ℕ) (its : Items) (g : Gathered) (groups loose edge from reach hi end : ℕ) (memo : Memo)
         → Level F T b w l base top low own lo p its g groups loose edge from reach hi end memo
@@ -38,7 +22,7 @@ module _ (l l′ : List ℕ) (base top low top′ low′ : ℕ) (up : top ≤ to
       stands = h .stands;
       fits = h .fits;
       gathers = h .gathers;
-      holds = gathered-stays groups loose edge g (h .holds);
+      holds = gathered-frame l l′ base top low top′ low′ up down same groups loose edge g (h .holds);
       plain = h .plain;
       remembered = h .remembered;
     }

@@ -17,7 +17,7 @@ use Rattle.tree.proofs.ShortLaws.{run-packs}
 use Rattle.tree.proofs.WellBuild.{gathers-packed}
 use Rattle.tree.proofs.RecordCounts.{length-pack, words-records, records-split}
 use Rattle.store.specs.Store.{Same, Staged, PushedPart}
-use Rattle.store.proofs.Frame.{same-less, frame}
+use Rattle.store.proofs.Frame.{same-less, frame, same-then}
 use Rattle.cursor.proofs.Spelled.{stands-after, spells-count}
 use Rattle.cursor.proofs.Back.{walk-after}
 use Rattle.gathering.specs.Gathering.{due}
@@ -27,7 +27,6 @@ use Rattle.scan.proofs.Memory.{remembered-fresh}
 use Rattle.take.specs.Going.{deep, own-under, Level, Going}
 use Rattle.take.specs.declared.State.{State}
 use Rattle.take.proofs.Steps.{going-on}
-use Rattle.take.proofs.Levels.{same-then}
 
 -- a run and what stands behind it
 pub records-run : (i s e : ℕ) (kids its : Items) → records (span i s e kids its) ≡ suc (records kids + records its)

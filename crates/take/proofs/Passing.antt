@@ -15,7 +15,7 @@ use Rattle.words.specs.Words.{id-of, end-of}
 use Rattle.store.specs.Store.{Readable}
 use Rattle.store.proofs.Frame.{same-less, readable}
 use Rattle.cursor.proofs.Spelled.{stands-past}
-use Rattle.balance.specs.declared.Gathering.{Gathering}
+use Rattle.gathering.specs.declared.Gathering.{Gathering}
 use Rattle.gathering.specs.Gathering.{PassedOver}
 use Rattle.gathering.proofs.Due.{due-pass}
 use Rattle.scan.proofs.Memory.{remembered-lower, remembered-past-mark}

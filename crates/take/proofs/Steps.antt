@@ -12,7 +12,7 @@ use Rattle.tree.specs.Build.{walk}
 use Rattle.store.specs.Store.{Same}
 use Rattle.store.proofs.Frame.{same-less}
 use Rattle.cursor.specs.Spells.{Stands}
-use Rattle.balance.specs.declared.Gathering.{Gathering}
+use Rattle.gathering.specs.declared.Gathering.{Gathering}
 use Rattle.gathering.specs.Gathering.{due}
 use Rattle.scan.specs.declared.Memo.{Memo}
 use Rattle.take.specs.Going.{deep, own-under, settled, Level, Going}

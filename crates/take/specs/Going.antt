@@ -11,7 +11,7 @@ use Rattle.tree.specs.Items.{Items, same, repeats}
 use Rattle.tree.specs.Groups.{Gathered, gather, finish}
 use Rattle.tree.specs.Build.{walk}
 use Rattle.cursor.specs.Spells.{Stands}
-use Rattle.balance.specs.Ready.{HoldsGathered}
+use Rattle.gathering.specs.Gathering.{HoldsGathered}
 use Rattle.gathering.specs.Gathering.{due}
 use Rattle.scan.specs.Walked.{Remembered}
 use Rattle.scan.specs.Counted.{Counted}

@@ -36,7 +36,7 @@ pub struct State {
     pub depth: usize,
     pub low: u32,
     pub tree: Node,
-    pub children: balance::Gathering,
+    pub children: gathering::Gathering,
     pub memo: scan::Memo,
 }
 
@@ -60,7 +60,7 @@ pub enum StartedNode {
 }
 
 // Eleven words from an index on.
-fn push_frame(work: &mut [u32], at: usize, tree: Node, g: balance::Gathering, memo: scan::Memo)
+fn push_frame(work: &mut [u32], at: usize, tree: Node, g: gathering::Gathering, memo: scan::Memo)
     requires { ⌜ at + 11 ≤ length (now work) ⌝ }
     ensures { λ _. ⌜ now (work .exit) ≡ put (now (work .entry)) at (tree .id ∷ tree .start ∷ tree .end ∷ tree .floor ∷ g .groups ∷ g .loose ∷ g .edge ∷ memo .place ∷ memo .start ∷ memo .mark ∷ memo .edge ∷ []) ⌝ }
 {
@@ -150,7 +150,7 @@ fn close_tree(records: &[u32], work: &mut [u32], s: State) -> State
     let made = gathering::finish_node(work, s.low, tree.id, tree.start, tree.end, g, f.loose);
     let outer = f.tree;
     let memo = f.memo;
-    let children = balance::Gathering {
+    let children = gathering::Gathering {
         top: made.top,
         groups: f.groups,
         loose: made.node,
@@ -175,7 +175,7 @@ fn open_tree(records: &[u32], work: &mut [u32], s: State, node: Node, memo: scan
     let tree = s.tree;
     let g = s.children;
     push_frame(work, records.len() / 4 + 1 + 11 * s.depth, tree, g, memo);
-    let children = balance::Gathering {
+    let children = gathering::Gathering {
         top: g.top,
         groups: 0,
         loose: 0,
@@ -282,7 +282,7 @@ fn take_deep(
     let g = s.children;
     let tree = s.tree;
     let own = cursor::in_repeat(first_repeat, node.id);
-    let inner = balance::Gathering {
+    let inner = gathering::Gathering {
         top: g.top,
         groups: 0,
         loose: 0,
@@ -299,7 +299,7 @@ fn take_deep(
         taken,
         g.loose,
     );
-    let children = balance::Gathering {
+    let children = gathering::Gathering {
         top: made.top,
         groups: g.groups,
         loose: made.node,
@@ -333,7 +333,7 @@ fn with_part(s: State, node: BuiltNode) -> State
 {
     let tree = s.tree;
     let g = s.children;
-    let children = balance::Gathering {
+    let children = gathering::Gathering {
         top: g.top + 10,
         groups: g.groups,
         loose: node.node,

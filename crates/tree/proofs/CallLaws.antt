@@ -27,6 +27,19 @@ length-postfix (add before i s e kids) =
     let own = i ∷ s ∷ e ∷ 4 * suc (count kids) ∷ [] in
     omega (arith, length-append (postfix before) (postfix kids ++ own), length-append (postfix kids) own, length-postfix before, length-postfix kids)
 
+-- the size of the result decides 12 and 13
+pub cells-short : (n w cells words : ℕ) → cells < cell-width * n → room n w cells words ≡ refused 12 0
+unfolding room
+cells-short n w cells words h = rw (lt-ltb cells (cell-width * n) h)
+
+pub words-short : (n w cells words : ℕ) → cell-width * n ≤ cells → words < w → room n w cells words ≡ refused 13 0
+unfolding room
+words-short n w cells words h k = rw (le-ltb cells (cell-width * n) h, lt-ltb words w k)
+
+pub room-enough : (n w cells words : ℕ) → cell-width * n ≤ cells → w ≤ words → room n w cells words ≡ accepted (n ∷ w ∷ [])
+unfolding room
+room-enough n w cells words h k = rw (le-ltb cells (cell-width * n) h, le-ltb words w k)
+
 module _ (T F b S top : ℕ) (given : Option ℕ) (work : ℕ) (records cells words : List ℕ) where
   abbrev t : Trees
   t = build F b S top given (parse records)

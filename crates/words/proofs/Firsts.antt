@@ -9,14 +9,6 @@ use native.Mathlib.Decide.{ℕ-discrete}
 use Rattle.words.specs.First.{first-from, first-in}
 
 module _ (test : ℕ → Bool) (i n : ℕ) where
-  pub from-hit : i < n → test i ≡ true → first-from test i (n - i) ≡ some i
-  unfolding first-from
-  from-hit l h = let e : n - i ≡ suc (n - (i + 1)) = omega arith in rw (e, h)
-
-  pub from-miss : i < n → test i ≡ false → first-from test i (n - i) ≡ first-from test (i + 1) (n - (i + 1))
-  unfolding first-from
-  from-miss l h = let e : n - i ≡ suc (n - (i + 1)) = omega arith in rw (e, h)
-
   -- one number more at the front, for a walk from the last one back
   pub from-step : i < n → first-from test i (n - i) ≡ cond (test i) (some i) (first-from test (i + 1) (n - (i + 1)))
   unfolding first-from

@@ -1,8 +1,8 @@
 // Internal.
-// What every other crate shares: a place that was found or not, words at wider types, and records of four words written.
+// What every other crate shares: a place that was found or not, words at wider types, a difference, and records of four words written.
 ghost use mathlib.Core.Path.{_≡_};
 ghost use mathlib.Core.List.{[], _∷_};
-ghost use Prim.Native.Nat.{_+_, _≤_};
+ghost use Prim.Native.Nat.{_+_, _-_, _≤_};
 ghost use lib.ListN.{length};
 ghost use Rattle.words.specs.Words.{Widened, put};
 
@@ -24,6 +24,30 @@ pub fn wide64(x: u16) -> u64
     ensures { λ r. ⌜ Widened x r ⌝ }
 {
     x as u64
+}
+
+// A 16-bit word in 32 bits.
+pub fn word(x: u16) -> u32
+    ensures { λ r. ⌜ r ≡ x ⌝ }
+{
+    x as u32
+}
+
+// A 32-bit word as an index.
+pub fn index(x: u32) -> usize
+    ensures { λ r. ⌜ r ≡ x ⌝ }
+{
+    x as usize
+}
+
+// a - b, or 0 where b is larger.
+pub fn less(a: u32, b: u32) -> u32
+    ensures { λ r. ⌜ r ≡ a - b ⌝ }
+{
+    if a < b {
+        return 0;
+    }
+    a - b
 }
 
 // Four words from an offset on.

@@ -22,7 +22,7 @@ returns : tie.Need-returns
 returns c =
     let c₄ = c .before .before .before .before in
     let z = c₄ .before .before .before .before .before .before in
-    λ q. refuses-cells (now (z .args .work)) (z .args .first .top) (z .args .first .kids) q (z .args .id) (z .args .start) (z .args .length) (now (z .args .cells)) (now (z .args .words)) (c₄ .wide .result + 1) (c₄ .wide .result) (c₄ .wide .ensures ∙ c .before .before .before .before .before .tell .ensures) refl (c .if1 .taken)
+    λ q. refuses-cells (now (z .args .work)) (z .args .first .top) (z .args .first .kids) q (z .args .id) (z .args .start) (z .args .length) (now (z .args .cells)) (now (z .args .words)) (c₄ .index .result + 1) (c₄ .index .result) (c₄ .index .ensures ∙ c .before .before .before .before .before .tell .ensures) refl (c .if1 .taken)
 
 returns-2 : tie.Need-returns-2
 returns-2 c =
@@ -30,7 +30,7 @@ returns-2 c =
     let c₅ = c₂ .before .before .before in
     let c₆ = c₅ .before in
     let z = c₆ .before .before .before .before .before in
-    λ q. refuses-words (now (z .args .work)) (z .args .first .top) (z .args .first .kids) q (z .args .id) (z .args .start) (z .args .length) (now (z .args .cells)) (now (z .args .words)) (c₅ .wide .result + 1) (c₅ .wide .result) (c₅ .wide .ensures ∙ c₆ .tell .ensures) refl (omega (arith, c .before .if1 .left)) (c₂ .wide2 .result) (c₂ .wide2 .ensures ∙ c .before .before .before .tell2 .ensures) (c .if2 .taken)
+    λ q. refuses-words (now (z .args .work)) (z .args .first .top) (z .args .first .kids) q (z .args .id) (z .args .start) (z .args .length) (now (z .args .cells)) (now (z .args .words)) (c₅ .index .result + 1) (c₅ .index .result) (c₅ .index .ensures ∙ c₆ .tell .ensures) refl (omega (arith, c .before .if1 .left)) (c₂ .index2 .result) (c₂ .index2 .ensures ∙ c .before .before .before .tell2 .ensures) (c .if2 .taken)
 
 write-top-requires : tie.Need-write-top-requires
 write-top-requires c κs =
@@ -39,7 +39,7 @@ write-top-requires c κs =
     let c₈ = c₆ .before .before in
     let c₉ = c₈ .before in
     let z = c₉ .before .before .before .before .before in
-    top-ready (now (z .args .work)) (z .args .first .top) (z .args .first .kids) (z .pre) (z .args .id) (z .args .start) (z .args .length) (now (z .args .cells)) (now (z .args .words)) (c₈ .wide .result + 1) (c₈ .wide .result) (c₈ .wide .ensures ∙ c₉ .tell .ensures) refl (omega (arith, c .before .before .before .before .if1 .left)) (c₅ .wide2 .result) (c₅ .wide2 .ensures ∙ c₆ .tell2 .ensures) (omega (arith, c .before .before .before .if2 .left))
+    top-ready (now (z .args .work)) (z .args .first .top) (z .args .first .kids) (z .pre) (z .args .id) (z .args .start) (z .args .length) (now (z .args .cells)) (now (z .args .words)) (c₈ .index .result + 1) (c₈ .index .result) (c₈ .index .ensures ∙ c₉ .tell .ensures) refl (omega (arith, c .before .before .before .before .if1 .left)) (c₅ .index2 .result) (c₅ .index2 .ensures ∙ c₆ .tell2 .ensures) (omega (arith, c .before .before .before .if2 .left))
 
 returns-3 : tie.Need-returns-3
 returns-3 c =
@@ -51,7 +51,7 @@ returns-3 c =
     let c₁₅ = c₁₃ .before .before in
     let c₁₆ = c₁₅ .before in
     let z = c₁₆ .before .before .before .before .before in
-    λ q. writes (now (z .args .work)) (z .args .first .top) (z .args .first .kids) q (z .args .id) (z .args .start) (z .args .length) (now (z .args .cells)) (now (z .args .words)) (c₁₅ .wide .result + 1) (c₁₅ .wide .result) (c₁₅ .wide .ensures ∙ c₁₆ .tell .ensures) refl (omega (arith, c₁₁ .if1 .left)) (c₁₂ .wide2 .result) (c₁₂ .wide2 .ensures ∙ c₁₃ .tell2 .ensures) (omega (arith, c₁₀ .if2 .left)) (c₆ .write-top .last .1 .1 .1 .1 .1 .1 .0) (c₆ .write-top .last .1 .1 .1 .1 .1 .1 .1 .0) (c₆ .write-top .ensures)
+    λ q. writes (now (z .args .work)) (z .args .first .top) (z .args .first .kids) q (z .args .id) (z .args .start) (z .args .length) (now (z .args .cells)) (now (z .args .words)) (c₁₅ .index .result + 1) (c₁₅ .index .result) (c₁₅ .index .ensures ∙ c₁₆ .tell .ensures) refl (omega (arith, c₁₁ .if1 .left)) (c₁₂ .index2 .result) (c₁₂ .index2 .ensures ∙ c₁₃ .tell2 .ensures) (omega (arith, c₁₀ .if2 .left)) (c₆ .write-top .last .1 .1 .1 .1 .1 .1 .0) (c₆ .write-top .last .1 .1 .1 .1 .1 .1 .1 .0) (c₆ .write-top .ensures)
 
 pub write-result-spec : {M : Type 1} → statement M
 write-result-spec =

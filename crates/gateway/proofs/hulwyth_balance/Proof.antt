@@ -2,8 +2,8 @@
 use mathlib.Core.Path.{_≡_, sym, ap, _∙_}
 use mathlib.Core.List.{[], _∷_}
 use Rattle.words.specs.Outcome.{accepted, refused}
-use Rattle.balancing.specs.Answer.{balanced-outcome}
-use Rattle.balancing.specs.declared.Balanced.{Balanced}
+use Rattle.balance.specs.Answer.{balanced-outcome}
+use Rattle.balance.specs.declared.Balanced.{Balanced}
 use Rattle.rules.specs.Calls.{balance-call}
 use denote.Ref.{now}
 use lib.ListN.{length}

@@ -22,14 +22,14 @@ returns c = finished-loose (now (c .before .before .before .before .before .befo
 close-rest-requires : tie.Need-close-rest-requires
 close-rest-requires c κs = (omega (arith, finish-room (now (c .before .before .before .before .args .work)) (c .before .before .before .before .args .stack) (c .before .before .before .before .args .g .top) (c .before .before .before .before .args .id) (c .before .before .before .before .args .start) (c .before .before .before .before .args .end) (c .before .before .before .before .args .g .groups) (c .before .before .before .before .args .g .loose) (c .before .before .before .before .args .g .edge) (c .before .before .before .before .args .next) (c .before .before .before .before .pre)), (omega (arith, finish-fits (now (c .before .before .before .before .args .work)) (c .before .before .before .before .args .stack) (c .before .before .before .before .args .g .top) (c .before .before .before .before .args .id) (c .before .before .before .before .args .start) (c .before .before .before .before .args .end) (c .before .before .before .before .args .g .groups) (c .before .before .before .before .args .g .loose) (c .before .before .before .before .args .g .edge) (c .before .before .before .before .args .next) (c .before .before .before .before .pre)), (finish-groups-node (now (c .before .before .before .before .args .work)) (c .before .before .before .before .args .stack) (c .before .before .before .before .args .g .top) (c .before .before .before .before .args .id) (c .before .before .before .before .args .start) (c .before .before .before .before .args .end) (c .before .before .before .before .args .g .groups) (c .before .before .before .before .args .g .loose) (c .before .before .before .before .args .g .edge) (c .before .before .before .before .args .next) (c .before .before .before .before .pre), finish-loose-node (now (c .before .before .before .before .args .work)) (c .before .before .before .before .args .stack) (c .before .before .before .before .args .g .top) (c .before .before .before .before .args .id) (c .before .before .before .before .args .start) (c .before .before .before .before .args .end) (c .before .before .before .before .args .g .groups) (c .before .before .before .before .args .g .loose) (c .before .before .before .before .args .g .edge) (c .before .before .before .before .args .next) (c .before .before .before .before .pre))))
 
-balance-groups-requires : tie.Need-balance-groups-requires
-balance-groups-requires c κs = balance-ready (now (c .before .before .before .before .before .before .before .before .args .work)) (c .before .before .before .before .before .before .before .before .args .stack) (c .before .before .before .before .before .before .before .before .args .g .top) (c .before .before .before .before .before .before .before .before .args .id) (c .before .before .before .before .before .before .before .before .args .start) (c .before .before .before .before .before .before .before .before .args .end) (c .before .before .before .before .before .before .before .before .args .g .groups) (c .before .before .before .before .before .before .before .before .args .g .loose) (c .before .before .before .before .before .before .before .before .args .g .edge) (c .before .before .before .before .before .before .before .before .args .next) (c .before .before .before .before .before .if1 .left) (c .before .before .before .close-rest .last .0) (c .before .before .before .close-rest .result .top) (c .before .before .before .close-rest .result .groups) (c .before .before .before .close-rest .result .loose) (c .before .before .before .close-rest .result .edge) (c .before .before .before .close-rest .ensures) (c .before .before .before .before .before .before .before .before .pre)
+balance-repeat-requires : tie.Need-balance-repeat-requires
+balance-repeat-requires c κs = balance-ready (now (c .before .before .before .before .before .before .before .before .args .work)) (c .before .before .before .before .before .before .before .before .args .stack) (c .before .before .before .before .before .before .before .before .args .g .top) (c .before .before .before .before .before .before .before .before .args .id) (c .before .before .before .before .before .before .before .before .args .start) (c .before .before .before .before .before .before .before .before .args .end) (c .before .before .before .before .before .before .before .before .args .g .groups) (c .before .before .before .before .before .before .before .before .args .g .loose) (c .before .before .before .before .before .before .before .before .args .g .edge) (c .before .before .before .before .before .before .before .before .args .next) (c .before .before .before .before .before .if1 .left) (c .before .before .before .close-rest .last .0) (c .before .before .before .close-rest .result .top) (c .before .before .before .close-rest .result .groups) (c .before .before .before .close-rest .result .loose) (c .before .before .before .close-rest .result .edge) (c .before .before .before .close-rest .ensures) (c .before .before .before .before .before .before .before .before .pre)
 
 same-length-2 : tie.Need-same-length-2
-same-length-2 c = c .before .before .balance-groups .ensures .kept .size ∙ c .before .before .before .before .before .before .close-rest .ensures .kept .size
+same-length-2 c = c .before .before .balance-repeat .ensures .kept .size ∙ c .before .before .before .before .before .before .close-rest .ensures .kept .size
 
 returns-2 : tie.Need-returns-2
-returns-2 c = finished-groups (now (c .before .before .before .before .before .before .before .before .before .before .before .args .work)) (c .before .before .before .before .before .before .before .before .before .before .before .args .stack) (c .before .before .before .before .before .before .before .before .before .before .before .args .g .top) (c .before .before .before .before .before .before .before .before .before .before .before .args .id) (c .before .before .before .before .before .before .before .before .before .before .before .args .start) (c .before .before .before .before .before .before .before .before .before .before .before .args .end) (c .before .before .before .before .before .before .before .before .before .before .before .args .g .groups) (c .before .before .before .before .before .before .before .before .before .before .before .args .g .loose) (c .before .before .before .before .before .before .before .before .before .before .before .args .g .edge) (c .before .before .before .before .before .before .before .before .before .before .before .args .next) (c .before .before .before .before .before .before .before .before .if1 .left) (c .before .before .before .before .before .before .close-rest .last .0) (c .before .before .before .before .before .before .close-rest .result .top) (c .before .before .before .before .before .before .close-rest .result .groups) (c .before .before .before .before .before .before .close-rest .result .loose) (c .before .before .before .before .before .before .close-rest .result .edge) (c .before .before .before .before .before .before .close-rest .ensures) (c .before .before .before .before .before .before .before .before .before .before .before .pre) (c .before .before .balance-groups .last .0) (c .before .before .balance-groups .result .top) (c .before .before .balance-groups .result .node) (c .before .before .balance-groups .ensures)
+returns-2 c = finished-groups (now (c .before .before .before .before .before .before .before .before .before .before .before .args .work)) (c .before .before .before .before .before .before .before .before .before .before .before .args .stack) (c .before .before .before .before .before .before .before .before .before .before .before .args .g .top) (c .before .before .before .before .before .before .before .before .before .before .before .args .id) (c .before .before .before .before .before .before .before .before .before .before .before .args .start) (c .before .before .before .before .before .before .before .before .before .before .before .args .end) (c .before .before .before .before .before .before .before .before .before .before .before .args .g .groups) (c .before .before .before .before .before .before .before .before .before .before .before .args .g .loose) (c .before .before .before .before .before .before .before .before .before .before .before .args .g .edge) (c .before .before .before .before .before .before .before .before .before .before .before .args .next) (c .before .before .before .before .before .before .before .before .if1 .left) (c .before .before .before .before .before .before .close-rest .last .0) (c .before .before .before .before .before .before .close-rest .result .top) (c .before .before .before .before .before .before .close-rest .result .groups) (c .before .before .before .before .before .before .close-rest .result .loose) (c .before .before .before .before .before .before .close-rest .result .edge) (c .before .before .before .before .before .before .close-rest .ensures) (c .before .before .before .before .before .before .before .before .before .before .before .pre) (c .before .before .balance-repeat .last .0) (c .before .before .balance-repeat .result .top) (c .before .before .balance-repeat .result .node) (c .before .before .balance-repeat .ensures)
 
 pub finish-node-spec : {M : Type 1} → statement M
 finish-node-spec =
@@ -41,6 +41,6 @@ finish-node-spec =
     same-length
     returns
     close-rest-requires
-    balance-groups-requires
+    balance-repeat-requires
     same-length-2
     returns-2)

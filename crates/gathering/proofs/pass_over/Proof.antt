@@ -7,7 +7,7 @@ use Rattle.gathering.proofs.pass_over.Statement.{statement}
 use Rattle.gathering.proofs.pass_over.Tie as tie
 
 returns : tie.Need-returns
-returns c = let a = c .before .before .before .before .before .before .args in let q = c .before .before .close-group .result in passed-close (now (a .work)) (c .before .before .close-group .last .0) (a .g .top) (a .id) (a .end) (a .g .groups) (a .g .loose) (a .g .edge) (q .top) (q .groups) (q .loose) (q .edge) (a .bound) (c .before .before .before .before .if1 .taken) (c .before .before .close-group .ensures)
+returns c = let a = c .before .before .before .before .before .before .args in let q = c .before .before .make-repeat-leaf .result in passed-close (now (a .work)) (c .before .before .make-repeat-leaf .last .0) (a .g .top) (a .id) (a .end) (a .g .groups) (a .g .loose) (a .g .edge) (q .top) (q .groups) (q .loose) (q .edge) (a .bound) (c .before .before .before .before .if1 .taken) (c .before .before .make-repeat-leaf .ensures)
 
 returns-2 : tie.Need-returns-2
 returns-2 c = let a = c .before .before .args in passed-on (now (a .work)) (a .g .top) (a .id) (a .end) (a .g .groups) (a .g .loose) (a .g .edge) (a .bound) (omega (arith, c .if1 .left))

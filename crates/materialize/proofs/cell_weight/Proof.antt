@@ -9,7 +9,7 @@ use Rattle.materialize.proofs.cell_weight.Tie as tie
 
 returns : tie.Need-returns
 unfolding weight
-returns c = rw (eq-eqb _ _ (c .before .if1 .taken), weight) (ap (λ (x : ℕ). x / 4) (c .wide .ensures))
+returns c = rw (eq-eqb _ _ (c .before .if1 .taken), weight) (ap (λ (x : ℕ). x / 4) (c .index .ensures))
 
 returns-2 : tie.Need-returns-2
 unfolding weight

@@ -9,18 +9,18 @@ use borrow.Author.Needs.{needs}
 use Rattle.materialize.proofs.end_links.Statement.{statement}
 use Rattle.materialize.proofs.end_links.Tie as tie
 
-at-end : (c : tie.After-wide) → c .wide .result * 7 + 6 < length (now (c .before .before .before .before .before .args .out))
-at-end c = rw (c .wide .ensures) (c .before .before .before .before .before .pre .1 (omega (arith, c .before .before .if1 .left)))
+at-end : (c : tie.After-index) → c .index .result * 7 + 6 < length (now (c .before .before .before .before .before .args .out))
+at-end c = rw (c .index .ensures) (c .before .before .before .before .before .pre .1 (omega (arith, c .before .before .if1 .left)))
 
 returns : tie.Need-returns
 unfolding ended
 returns c = rw (le-ltb _ _ (c .if1 .taken), ended)
 
-mul-wide : tie.Need-mul-wide
-mul-wide c = omega (arith, c .before .before .before .pre .0 (omega (arith, c .if1 .left)))
+mul-index : tie.Need-mul-index
+mul-index c = omega (arith, c .before .before .before .pre .0 (omega (arith, c .if1 .left)))
 
-shared-slice-read-wide : tie.Need-shared-slice-read-wide
-shared-slice-read-wide c = omega (arith, c .before .before .before .before .pre .0 (omega (arith, c .before .if1 .left)))
+shared-slice-read-index : tie.Need-shared-slice-read-index
+shared-slice-read-index c = omega (arith, c .before .before .before .before .pre .0 (omega (arith, c .before .if1 .left)))
 
 mul-out : tie.Need-mul-out
 mul-out c = omega (arith, at-end c)
@@ -36,15 +36,15 @@ slice-write-out c = at-end c
 
 returns-2 : tie.Need-returns-2
 unfolding ended
-returns-2 c = rw (lt-ltb (c .before .before .before .before .before .args .kept) (c .before .before .before .before .before .args .sp) (omega (arith, c .before .before .if1 .left)), c .wide .ensures)
+returns-2 c = rw (lt-ltb (c .before .before .before .before .before .args .kept) (c .before .before .before .before .before .args .sp) (omega (arith, c .before .before .if1 .left)), c .index .ensures)
 
 pub end-links-spec : {M : Type 1} → statement M
 end-links-spec =
     tie.close
     (tie.spec
     returns
-    mul-wide
-    shared-slice-read-wide
+    mul-index
+    shared-slice-read-index
     (λ c κs. search needs)
     mul-out
     add-out

@@ -13,7 +13,7 @@ returns c = rw (le-ltb _ _ (c .if1 .taken), trees-left)
 
 returns-2 : tie.Need-returns-2
 unfolding trees-left
-returns-2 c = rw (lt-ltb (c .before .before .before .before .args .left) (c .before .before .before .before .args .marks) (omega (arith, c .before .before .if1 .left)), trees-left) (c .wide .ensures)
+returns-2 c = rw (lt-ltb (c .before .before .before .before .args .left) (c .before .before .before .before .args .marks) (omega (arith, c .before .before .if1 .left)), trees-left) (c .index .ensures)
 
 pub staying-spec : {M : Type 1} → statement M
 staying-spec =

@@ -9,9 +9,9 @@ returns : tie.Need-returns
 returns c =
     let a = c .before .before .before .before .before .before .before .before .before .before .before .before .before .before .before .args in
     pushed-part (now (a .work)) (c .before .before .put-node .last .0) (a .top) 2 (a .count) (a .start) (a .length) (a .from) (a .next) (c .before .before .before .before .before .before .before .before .before .before .before .before .before .before .before .pre .0)
-    (c .before .before .before .wide .result) (c .before .before .before .before .before .before .before .before .before .before .before .before .tell .result) (c .before .before .before .before .before .before .before .before .before .tell2 .result) (c .before .before .before .before .before .before .tell3 .result)
+    (c .before .before .before .index .result) (c .before .before .before .before .before .before .before .before .before .before .before .before .tell .result) (c .before .before .before .before .before .before .before .before .before .tell2 .result) (c .before .before .before .before .before .before .tell3 .result)
     (c .before .before .before .before .before .before .before .before .before .before .before .sum .result) (c .before .before .before .before .before .before .before .before .sum2 .result) (c .before .before .before .before .before .sum3 .result)
-    (c .before .before .before .wide .ensures) (c .before .before .put-node .ensures)
+    (c .before .before .before .index .ensures) (c .before .before .put-node .ensures)
     (c .before .before .before .before .before .before .before .before .before .before .before .before .tell .ensures) (c .before .before .before .before .before .before .before .before .before .tell2 .ensures) (c .before .before .before .before .before .before .tell3 .ensures)
     (c .before .before .before .before .before .before .before .before .before .before .before .sum .ensures) (c .before .before .before .before .before .before .before .before .sum2 .ensures) (c .before .before .before .before .before .sum3 .ensures)
 

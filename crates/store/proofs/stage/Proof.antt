@@ -10,7 +10,7 @@ use Rattle.store.proofs.stage.Tie as tie
 returns : tie.Need-returns
 returns c =
     let a = c .before .before .args in
-    staged-more (now (a .work)) (a .low) (a .x) (c .wide .result) (a .low - 1) (c .before .before .pre .0) (c .before .before .pre .1) (c .before .before .fits .x .fits) refl (c .wide .ensures)
+    staged-more (now (a .work)) (a .low) (a .x) (c .index .result) (a .low - 1) (c .before .before .pre .0) (c .before .before .pre .1) (c .before .before .fits .x .fits) refl (c .index .ensures)
 
 pub stage-spec : {M : Type 1} → statement M
 stage-spec =

@@ -10,10 +10,10 @@ returns : tie.Need-returns
 returns c = sym (rw (eq-eqb (c .before .before .args .node) 0 (c .if1 .taken)))
 
 shared-slice-read-result : tie.Need-shared-slice-read-result
-shared-slice-read-result c = let r = c .before .before .before .before .pre .0 (c .before .before .if1 .left) in let e = c .before .wide .ensures in omega (arith, r, e)
+shared-slice-read-result c = let r = c .before .before .before .before .pre .0 (c .before .before .if1 .left) in let e = c .before .index .ensures in omega (arith, r, e)
 
 returns-2 : tie.Need-returns-2
-returns-2 c = sym (rw (ne-eqb (c .before .before .before .before .args .node) 0 (c .before .before .if1 .left), ← c .before .wide .ensures))
+returns-2 c = sym (rw (ne-eqb (c .before .before .before .before .args .node) 0 (c .before .before .if1 .left), ← c .before .index .ensures))
 
 pub tell-spec : {M : Type 1} → statement M
 tell-spec =

@@ -59,26 +59,26 @@ module _ (m : tie.At-loop Inv-loop μ-loop) where
   stack-low : m .loop .sp ≤ length (m .loop .work)
   stack-low = omega (arith, going-at .depth, going-at .count, p₁ .free, p₁ .inside, going-at .size)
 
-  ended : m .loop .at ≡ 0 → m .loop .sp ≡ m .before .wide .result → Wrote W₀ (s₁ .args .top) (s₁ .args .root) (s₁ .args .start) O₀ (m .loop .out) V₀ (m .loop .words)
-  ended z e = going-end W₀ (s₁ .args .top) (s₁ .args .root) (s₁ .args .start) O₀ V₀ p₁ (m .loop .work) (m .loop .out) (m .loop .words) (m .loop .at) (m .loop .from) (m .loop .sp) (m .loop .cell) (m .loop .word) now₁ later₁ going-at z (e ∙ m .before .wide .ensures)
+  ended : m .loop .at ≡ 0 → m .loop .sp ≡ m .before .index .result → Wrote W₀ (s₁ .args .top) (s₁ .args .root) (s₁ .args .start) O₀ (m .loop .out) V₀ (m .loop .words)
+  ended z e = going-end W₀ (s₁ .args .top) (s₁ .args .root) (s₁ .args .start) O₀ V₀ p₁ (m .loop .work) (m .loop .out) (m .loop .words) (m .loop .at) (m .loop .from) (m .loop .sp) (m .loop .cell) (m .loop .word) now₁ later₁ going-at z (e ∙ m .before .index .ensures)
 
-  popped : m .loop .at ≡ 0 → (m .loop .sp ≡ m .before .wide .result → ⊥)
+  popped : m .loop .at ≡ 0 → (m .loop .sp ≡ m .before .index .result → ⊥)
       → (s₁ .args .top + 2 ≤ m .loop .sp) × ((ts : Trees) × (rest : Later) × Going W₀ (s₁ .args .top) (s₁ .args .root) (s₁ .args .start) O₀ V₀ p₁ (m .loop .work) (m .loop .out) (m .loop .words) (getD (m .loop .work) (m .loop .sp - 2) 0) (getD (m .loop .work) (m .loop .sp - 1) 0) (m .loop .sp - 2) (m .loop .cell) (m .loop .word) ts rest)
-  popped z ne = going-pop W₀ (s₁ .args .top) (s₁ .args .root) (s₁ .args .start) O₀ V₀ p₁ (m .loop .work) (m .loop .out) (m .loop .words) (m .loop .at) (m .loop .from) (m .loop .sp) (m .loop .cell) (m .loop .word) now₁ later₁ going-at z (λ e. ne (e ∙ sym (m .before .wide .ensures)))
+  popped z ne = going-pop W₀ (s₁ .args .top) (s₁ .args .root) (s₁ .args .start) O₀ V₀ p₁ (m .loop .work) (m .loop .out) (m .loop .words) (m .loop .at) (m .loop .from) (m .loop .sp) (m .loop .cell) (m .loop .word) now₁ later₁ going-at z (λ e. ne (e ∙ sym (m .before .index .ensures)))
 
 -- at a node
-module _ (e : tie.After-wide2 Inv-loop μ-loop) where
+module _ (e : tie.After-index2 Inv-loop μ-loop) where
   abbrev m₂ : tie.At-loop Inv-loop μ-loop
   m₂ = e .before .before
 
   abbrev n₂ : ℕ
-  n₂ = e .wide2 .result
+  n₂ = e .index2 .result
 
   going-2 : Going (W₀ m₂) (s₁ m₂ .args .top) (s₁ m₂ .args .root) (s₁ m₂ .args .start) (O₀ m₂) (V₀ m₂) (p₁ m₂) (m₂ .loop .work) (m₂ .loop .out) (m₂ .loop .words) n₂ (m₂ .loop .from) (m₂ .loop .sp) (m₂ .loop .cell) (m₂ .loop .word) (now₁ m₂) (later₁ m₂)
-  going-2 = going-same (W₀ m₂) (s₁ m₂ .args .top) (s₁ m₂ .args .root) (s₁ m₂ .args .start) (O₀ m₂) (V₀ m₂) (p₁ m₂) (m₂ .loop .work) (m₂ .loop .out) (m₂ .loop .words) (m₂ .loop .at) (m₂ .loop .from) (m₂ .loop .sp) (m₂ .loop .cell) (m₂ .loop .word) n₂ (now₁ m₂) (later₁ m₂) (e .wide2 .ensures) (going-at m₂)
+  going-2 = going-same (W₀ m₂) (s₁ m₂ .args .top) (s₁ m₂ .args .root) (s₁ m₂ .args .start) (O₀ m₂) (V₀ m₂) (p₁ m₂) (m₂ .loop .work) (m₂ .loop .out) (m₂ .loop .words) (m₂ .loop .at) (m₂ .loop .from) (m₂ .loop .sp) (m₂ .loop .cell) (m₂ .loop .word) n₂ (now₁ m₂) (later₁ m₂) (e .index2 .ensures) (going-at m₂)
 
   live-2 : n₂ ≡ 0 → ⊥
-  live-2 z = e .before .if1 .left (sym (e .wide2 .ensures) ∙ z)
+  live-2 z = e .before .if1 .left (sym (e .index2 .ensures) ∙ z)
 
   inside-at : n₂ + 10 ≤ length (m₂ .loop .work)
   inside-at = node-inside (W₀ m₂) (s₁ m₂ .args .top) (s₁ m₂ .args .root) (s₁ m₂ .args .start) (O₀ m₂) (V₀ m₂) (p₁ m₂) (m₂ .loop .work) (m₂ .loop .out) (m₂ .loop .words) n₂ (m₂ .loop .from) (m₂ .loop .sp) (m₂ .loop .cell) (m₂ .loop .word) (now₁ m₂) (later₁ m₂) going-2 live-2
@@ -107,7 +107,7 @@ module _ (e : tie.After-wide2 Inv-loop μ-loop) where
 loop-holds : tie.Need-loop-holds Inv-loop μ-loop
 loop-holds c =
     let a = c .before .before .before .before .args in
-    (c .before .before .before .before .pre, c .before .before .before .before .pre .trees, end, rw (c .wide .ensures) (going-start (now (a .work)) (a .top) (a .root) (a .start) (now (a .out)) (now (a .words)) (c .before .before .before .before .pre)))
+    (c .before .before .before .before .pre, c .before .before .before .before .pre .trees, end, rw (c .index .ensures) (going-start (now (a .work)) (a .top) (a .root) (a .start) (now (a .out)) (now (a .words)) (c .before .before .before .before .pre)))
 
 same-length : tie.Need-same-length Inv-loop μ-loop
 same-length c = going-at (c .before .before) .size

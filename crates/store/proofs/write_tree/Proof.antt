@@ -9,8 +9,8 @@ returns : tie.Need-returns
 returns c =
     let a = c .before .before .before .before .before .before .before .before .before .before .before .before .before .before .before .before .before .before .args in
     tree-written (now (a .work)) (now (a .out)) (c .before .before .put-cell .last .0) (a .n) (a .from) (a .cell)
-    (c .before .before .before .before .before .before .before .less .result) (c .before .before .before .before .before .before .before .before .before .before .before .before .before .link .result) (c .before .before .before .before .before .before .before .before .before .before .before .before .tell2 .result) (c .before .before .before .before .before .before .before .before .before .before .before .before .before .before .tell .result) (c .before .before .before .before .before .before .before .before .before .before .wide .result) (c .before .before .before .before .before .before .before .before .before .link2 .result)
-    (c .before .before .put-cell .ensures) (c .before .before .before .before .before .before .before .less .ensures) (c .before .before .before .before .before .before .before .before .before .before .before .before .before .link .ensures) (c .before .before .before .before .before .before .before .before .before .before .before .before .tell2 .ensures) (c .before .before .before .before .before .before .before .before .before .link2 .ensures) (c .before .before .before .before .before .before .before .before .before .before .wide .ensures) (c .before .before .before .before .before .before .before .before .before .before .before .before .before .before .tell .ensures)
+    (c .before .before .before .before .before .before .before .less .result) (c .before .before .before .before .before .before .before .before .before .before .before .before .before .link .result) (c .before .before .before .before .before .before .before .before .before .before .before .before .tell2 .result) (c .before .before .before .before .before .before .before .before .before .before .before .before .before .before .tell .result) (c .before .before .before .before .before .before .before .before .before .before .index .result) (c .before .before .before .before .before .before .before .before .before .link2 .result)
+    (c .before .before .put-cell .ensures) (c .before .before .before .before .before .before .before .less .ensures) (c .before .before .before .before .before .before .before .before .before .before .before .before .before .link .ensures) (c .before .before .before .before .before .before .before .before .before .before .before .before .tell2 .ensures) (c .before .before .before .before .before .before .before .before .before .link2 .ensures) (c .before .before .before .before .before .before .before .before .before .before .index .ensures) (c .before .before .before .before .before .before .before .before .before .before .before .before .before .before .tell .ensures)
 
 pub write-tree-spec : {M : Type 1} → statement M
 write-tree-spec =

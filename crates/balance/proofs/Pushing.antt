@@ -1,0 +1,168 @@
+-- The pass that adds the nodes, from the last cell back: where the links of a cell lead, nodes stand already. Assumes nothing.
+use mathlib.Core.Path.{_≡_, sym, ap, subst, _∙_}
+use mathlib.Core.List.{List}
+use mathlib.Core.Logic.{inl, inr, ⊎-elim}
+use Prim.Native.Nat.{ℕ, _+_, _-_, _*_, _≤_, _<_}
+use native.Mathlib.Omega.{arith}
+use native.Mathlib.Decide.{ℕ-discrete}
+use borrow.Author.Tests.{eq-eqb, ne-eqb}
+use lib.ListN.{length, getD}
+use Rattle.tree.specs.Trees.{Trees, nil}
+use Rattle.store.specs.Store.{Holds, Staged, Same, Readable, PushedTree, PushedPart}
+use Rattle.store.proofs.Frame.{same-less, staged-frame, frame}
+use Rattle.store.proofs.Unique.{not-part}
+use Rattle.rules.specs.Calls.{handed-in}
+use Rattle.balance.specs.Steps.{bases, onwards, Given, address, Based, Building}
+use Rattle.balance.proofs.Sites.{Leads, TreeAt, PartAt, Site}
+use Rattle.balance.proofs.Handed.{Handed, handed}
+use Rattle.balance.proofs.Noting.{leads-in}
+
+pub address-none : (high x : ℕ) → x ≡ 0 → address high x ≡ 0
+unfolding address
+address-none high x e = rw (eq-eqb x 0 e)
+
+pub address-some : (high x : ℕ) → (x ≡ 0 → ⊥) → address high x ≡ high - x * 10
+unfolding address
+address-some high x e = rw (ne-eqb x 0 e)
+
+module _ (held cs ws : List ℕ) (n high low i : ℕ) (b : Building held cs ws n high low i) where
+  abbrev bs : List ℕ
+  bs = bases 0 (handed-in cs ws)
+
+  abbrev us : List Trees
+  us = onwards (handed-in cs ws)
+
+  abbrev h : Handed cs ws n
+  h = handed cs ws n (b .given)
+
+  -- the trees that a link of a cell before leads to
+  pub link-held : (k q : ℕ) (ts : Trees) (x : ℕ) → i ≤ k + 1 → Leads cs ws bs us n k q ts x → Holds held n (high - i * 10) low (address high x) ts
+  link-held k q ts x l (inl e) = subst (Holds held n (high - i * 10) low (address high x)) (sym (e .0)) (address-none high x (e .1))
+  link-held k q ts x l (inr e) =
+      let y : ℕ = e .0 in
+      let a : address high x ≡ high - (y + 1) * 10 = address-some high x (λ o. omega (arith, e .1)) ∙ omega (arith, e .1) in
+      rw a (subst (Holds held n (high - i * 10) low (high - (y + 1) * 10)) (e .2 .trees-at) (b .built y (omega (arith, e .2 .later)) (e .2 .within)))
+
+module _ (held cs ws : List ℕ) (n high low i : ℕ) (l : i < n) (b : Building held cs ws n high low (i + 1)) where
+  abbrev bs₁ : List ℕ
+  bs₁ = bases 0 (handed-in cs ws)
+
+  abbrev us₁ : List Trees
+  us₁ = onwards (handed-in cs ws)
+
+  abbrev h₁ : Handed cs ws n
+  h₁ = handed cs ws n (b .given)
+
+  abbrev site : Site cs ws bs₁ us₁ n i
+  site = h₁ .site i l
+
+  pub start-fits : getD held i 0 + getD cs (i * 7 + 2) 0 ≤ 4294967295
+  start-fits = ⊎-elim (λ (t : TreeAt cs ws bs₁ us₁ n i). omega (arith, b .based i l, t .start-is, t .small))
+      (λ (t : PartAt cs ws bs₁ us₁ n i). omega (arith, b .based i l, t .start-is, t .small)) (site .own)
+
+  pub next-in : getD cs (i * 7 + 6) 0 ≤ n
+  next-in = ⊎-elim (λ (t : TreeAt cs ws bs₁ us₁ n i). leads-in cs ws n (b .given) i (getD bs₁ i 0) (t .rest) (getD cs (i * 7 + 6) 0) (t .next-is))
+      (λ (t : PartAt cs ws bs₁ us₁ n i). leads-in cs ws n (b .given) i (getD bs₁ i 0) (t .rest) (getD cs (i * 7 + 6) 0) (t .next-is)) (site .own)
+
+  -- a number names an address that can be read
+  pub address-readable : (x : ℕ) → x ≤ n → Readable held (address high x)
+  address-readable x m z = go (ℕ-discrete x 0)
+    where
+      go : Dec (x ≡ 0) → address high x + 10 ≤ length held
+      go (yes e) = absurd (z (address-none high x e))
+      go (no e) = omega (arith, address-some high x e, b .high-is, b .under, b .inside)
+
+  module _ (two : getD cs (i * 7) 0 ≡ 2) where
+    pub part-site : PartAt cs ws bs₁ us₁ n i
+    part-site = ⊎-elim (λ (t : TreeAt cs ws bs₁ us₁ n i). absurd (not-part (t .type) (sym (t .kind-is) ∙ two))) (λ t. t) (site .own)
+
+    pub words-fit : low + getD cs (i * 7 + 4) 0 ≤ 4294967295
+    words-fit = omega (arith, part-site .inside, b .fits)
+
+  module _ (other : getD cs (i * 7) 0 ≡ 2 → ⊥) where
+    pub tree-site : TreeAt cs ws bs₁ us₁ n i
+    tree-site = ⊎-elim (λ t. t) (λ (t : PartAt cs ws bs₁ us₁ n i). absurd (other (t .kind-is))) (site .own)
+
+    pub first-in : getD cs (i * 7 + 4) 0 ≤ n
+    first-in = leads-in cs ws n (b .given) i (tree-site .start) (tree-site .kids) (getD cs (i * 7 + 4) 0) (tree-site .first-is)
+
+  -- A node more: all that was there stays.
+  module _ (held′ : List ℕ) (top r : ℕ) (top-is : top ≡ high - (i + 1) * 10) (s : Same held held′ 0 top (top + 10)) (at : r ≡ top) where
+    up : top ≤ high - i * 10
+    up = omega (arith, b .high-is)
+
+    same : Same held held′ n (high - (i + 1) * 10) low
+    same = same-less held held′ 0 top (top + 10) n (high - (i + 1) * 10) low (omega arith) (omega arith) (omega (arith, b .high-is, b .under)) s
+
+    built-more : Holds held′ n (top + 10) low r (getD us₁ i nil) → Building held′ cs ws n high low i
+    built-more new = record {
+      given = b .given;
+      high-is = b .high-is;
+      under = b .under;
+      inside = omega (arith, b .inside, s .size);
+      fits = b .fits;
+      based = λ k m. s .below k (omega arith) (omega (arith, b .high-is)) ∙ b .based k m;
+      staged = staged-frame held held′ n (high - (i + 1) * 10) low (high - (i + 1) * 10) low (omega arith) (omega arith) same low ws (b .staged);
+      built = λ k m o. go k m o (ℕ-discrete i k);
+    }
+      where
+        go : (k : ℕ) → i ≤ k → k < n → Dec (i ≡ k) → Holds held′ n (high - i * 10) low (high - (k + 1) * 10) (getD us₁ k nil)
+        go k m o (yes e) =
+            let a : high - i * 10 ≡ top + 10 = omega (arith, b .high-is) in
+            let c : high - (k + 1) * 10 ≡ r = omega (arith, b .high-is) in
+            rw (a, c) (subst (λ (j : ℕ). Holds held′ n (top + 10) low r (getD us₁ j nil)) e new)
+        go k m o (no e) =
+            frame held held′ n (high - (i + 1) * 10) low (high - i * 10) low (omega arith) (omega arith) same (high - (k + 1) * 10) (getD us₁ k nil) (b .built k (omega arith) o)
+
+  module _ (held′ : List ℕ) (top start r : ℕ) (top-is : top ≡ high - (i + 1) * 10) (start-is : start ≡ getD held i 0 + getD cs (i * 7 + 2) 0)
+      (next : ℕ) (next-is : next ≡ address high (getD cs (i * 7 + 6) 0)) where
+    below : high - (i + 1) * 10 ≡ top
+    below = sym top-is
+
+    pub pushed-part : (two : getD cs (i * 7) 0 ≡ 2) (from : ℕ) → from ≡ low + getD cs (i * 7 + 4) 0
+        → PushedPart held held′ top start (getD cs (i * 7 + 3) 0) from (getD cs (i * 7 + 5) 0) next r → Building held′ cs ws n high low i
+    pushed-part two from from-is p =
+        let t = part-site two in
+        let starts : start ≡ t .start = omega (arith, start-is, b .based i l, t .start-is) in
+        let later : Holds held n top low next (t .rest) = rw (next-is, top-is) (link-held held cs ws n high low (i + 1) b i (getD bs₁ i 0) (t .rest) (getD cs (i * 7 + 6) 0) (omega arith) (t .next-is)) in
+        let staged : Staged held low from (t .held) = record {
+          above = omega (arith, from-is);
+          within = omega (arith, from-is, t .inside, b .staged .within);
+          same = λ k m.
+              let z : from + k ≡ low + (getD cs (i * 7 + 4) 0 + k) = omega (arith, from-is) in
+              ap (λ (j : ℕ). getD held j 0) z ∙ b .staged .same (getD cs (i * 7 + 4) 0 + k) (omega (arith, t .inside)) ∙ t .words-at k m;
+          narrow = λ k m. omega (arith, t .words-at k m, b .staged .narrow (getD cs (i * 7 + 4) 0 + k) (omega (arith, t .inside)));
+        } in
+        let new = p .holds n low (t .held) (t .rest) (omega (arith, l)) (omega (arith, top-is, b .high-is)) (omega (arith, top-is, b .high-is, b .under)) (t .count-is) staged later in
+        built-more held′ top r top-is (p .kept) (p .address) (rw (t .here, ← starts, ← (t .len-is)) new)
+
+    pub pushed-tree : (other : getD cs (i * 7) 0 ≡ 2 → ⊥) (first : ℕ) → first ≡ address high (getD cs (i * 7 + 4) 0)
+        → PushedTree held held′ top (getD cs (i * 7) 0) (getD cs (i * 7 + 1) 0) start (getD cs (i * 7 + 3) 0) first next r → Building held′ cs ws n high low i
+    pushed-tree other first first-is p =
+        let t = tree-site other in
+        let starts : start ≡ t .start = omega (arith, start-is, b .based i l, t .start-is) in
+        let later : Holds held n top low next (t .rest) = rw (next-is, top-is) (link-held held cs ws n high low (i + 1) b i (getD bs₁ i 0) (t .rest) (getD cs (i * 7 + 6) 0) (omega arith) (t .next-is)) in
+        let inner : Holds held n top low first (t .kids) = rw (first-is, top-is) (link-held held cs ws n high low (i + 1) b i (t .start) (t .kids) (getD cs (i * 7 + 4) 0) (omega arith) (t .first-is)) in
+        let new = p .holds n low (t .type) (t .kids) (t .rest) (omega (arith, l)) (omega (arith, top-is, b .high-is)) (omega (arith, top-is, b .high-is, b .under)) (t .kind-is) (t .id-is) inner later in
+        built-more held′ top r top-is (p .kept) (p .address) (rw (t .here, ← starts, ← (t .len-is)) new)
+
+-- before the first node
+pub building-start : (held₁ held₂ cs ws : List ℕ) (n high low : ℕ) → Given cs ws n → Staged held₁ low low ws → Based held₂ n (handed-in cs ws) → Same held₁ held₂ 0 0 n
+    → high ≡ n * 11 → high ≤ low → low ≤ length held₁ → low + length ws ≤ 4294967295 → Building held₂ cs ws n high low n
+building-start held₁ held₂ cs ws n high low g w b s e u m f = record {
+  given = g;
+  high-is = e;
+  under = u;
+  inside = omega (arith, s .size);
+  fits = f;
+  based = b;
+  staged = staged-frame held₁ held₂ 0 0 low 0 low (omega arith) (omega arith) (same-less held₁ held₂ 0 0 n 0 0 low (omega arith) (omega arith) (omega arith) s) low ws w;
+  built = λ k l o. absurd (omega arith);
+}
+
+-- one cell more is to be added, or none is left
+pub building-one-less : (held cs ws : List ℕ) (n high low i : ℕ) → 0 < i → Building held cs ws n high low i → Building held cs ws n high low (i - 1 + 1)
+building-one-less held cs ws n high low i l b = let z : i - 1 + 1 ≡ i = omega arith in rw z b
+
+pub building-none-left : (held cs ws : List ℕ) (n high low i : ℕ) → i ≤ 0 → Building held cs ws n high low i → Building held cs ws n high low 0
+building-none-left held cs ws n high low i l b = let z : i ≡ 0 = omega arith in subst (λ (k : ℕ). Building held cs ws n high low k) z b

@@ -1,0 +1,155 @@
+-- A tree over a list, or the list where it is that tree. Assumes nothing.
+use mathlib.Core.Path.{_≡_, refl, sym, ap, _∙_}
+use mathlib.Core.Bool.{Bool, true, false, cond, _&&_}
+use mathlib.Core.List.{List}
+use mathlib.Core.Option.{Option, none, some}
+use Prim.Native.Nat.{ℕ, _+_, _-_, _≤_}
+use native.Mathlib.Omega.{arith}
+use borrow.Author.Tests.{eq-eqb, ne-eqb}
+use lib.Dec.{eqb}
+use lib.ListN.{length, getD}
+use Rattle.tree.specs.Trees.{Trees, nil, tree, part, _⊕_, siblings}
+use Rattle.tree.specs.Cells.{kind, id-word}
+use Rattle.tree.specs.Balance.{same-type, lone, is-tree, joined}
+use Rattle.store.specs.Store.{Holds, Readable, PushedTree}
+use Rattle.store.proofs.Unique.{not-part}
+use Rattle.store.proofs.Frame.{readable}
+use Rattle.balance_core.specs.Ready.{CopyReady, Copied, JoinReady, Joined, alone}
+use Rattle.tree.proofs.ListingLaws.{⊕-nil}
+
+-- the answers of the test
+module _ (w : List ℕ) (n k i s l : ℕ) where
+  pub alone-none : n ≡ 0 → false ≡ alone w n k i s l
+  alone-none e = rw (eq-eqb n 0 e)
+
+  module _ (live : n ≡ 0 → ⊥) (a : ℕ) (ea : a ≡ getD w (n + 5) 0) where
+    pub alone-next : (a ≡ 0 → ⊥) → false ≡ alone w n k i s l
+    alone-next h = rw (ne-eqb n 0 live, ← ea, ne-eqb a 0 h)
+
+    module _ (za : a ≡ 0) (b : ℕ) (eb : b ≡ getD w (n + 0) 0) where
+      pub alone-kind : (b ≡ k → ⊥) → false ≡ alone w n k i s l
+      alone-kind h = rw (ne-eqb n 0 live, ← ea, eq-eqb a 0 za, ← eb, ne-eqb k b (λ x. h (sym x)))
+
+      module _ (zb : b ≡ k) (c : ℕ) (ec : c ≡ getD w (n + 1) 0) where
+        pub alone-id : (c ≡ i → ⊥) → false ≡ alone w n k i s l
+        alone-id h = rw (ne-eqb n 0 live, ← ea, eq-eqb a 0 za, ← eb, eq-eqb k b (sym zb), ← ec, ne-eqb i c (λ x. h (sym x)))
+
+        module _ (zc : c ≡ i) (d : ℕ) (ed : d ≡ getD w (n + 2) 0) where
+          pub alone-start : (d ≡ s → ⊥) → false ≡ alone w n k i s l
+          alone-start h = rw (ne-eqb n 0 live, ← ea, eq-eqb a 0 za, ← eb, eq-eqb k b (sym zb), ← ec, eq-eqb i c (sym zc), ← ed, ne-eqb s d (λ x. h (sym x)))
+
+          module _ (zd : d ≡ s) (e : ℕ) (ee : e ≡ getD w (n + 3) 0) where
+            pub alone-length : (e ≡ l → ⊥) → false ≡ alone w n k i s l
+            alone-length h = rw (ne-eqb n 0 live, ← ea, eq-eqb a 0 za, ← eb, eq-eqb k b (sym zb), ← ec, eq-eqb i c (sym zc), ← ed, eq-eqb s d (sym zd), ← ee, ne-eqb l e (λ x. h (sym x)))
+
+            pub alone-yes : e ≡ l → true ≡ alone w n k i s l
+            alone-yes h = rw (ne-eqb n 0 live, ← ea, eq-eqb a 0 za, ← eb, eq-eqb k b (sym zb), ← ec, eq-eqb i c (sym zc), ← ed, eq-eqb s d (sym zd), ← ee, eq-eqb l e (sym h))
+
+five : (a b c d e : Bool) → cond a (cond b (cond c (cond d (cond e true false) false) false) false) false ≡ (a && ((b && c) && (d && e)))
+five false b c d e = refl
+five true false c d e = refl
+five true true false d e = refl
+five true true true false e = refl
+five true true true true false = refl
+five true true true true true = refl
+
+no-kind : (a : Bool) → cond a false false ≡ false
+no-kind true = refl
+no-kind false = refl
+
+same-words : (t u : Option ℕ) → (eqb (kind t) (kind u) && eqb (id-word t) (id-word u)) ≡ same-type t u
+unfolding same-type kind id-word
+same-words none none = refl
+same-words none (some i) = refl
+same-words (some r) none = refl
+same-words (some r) (some i) = refl
+
+lone-next : (w : List ℕ) (base top low n : ℕ) (t : Option ℕ) (s l : ℕ) (kids rest : Trees) → Holds w base top low n rest → eqb n 0 ≡ lone (tree t s l kids rest)
+unfolding lone
+lone-next w base top low n t s l kids nil h = eq-eqb n 0 h
+lone-next w base top low n t s l kids (tree u s′ l′ ks more) h = ne-eqb n 0 (λ e. omega (arith, h .node .live))
+lone-next w base top low n t s l kids (part s′ l′ ws more) h = ne-eqb n 0 (λ e. omega (arith, h .node .live))
+
+pub alone-is : (w : List ℕ) (base top low n : ℕ) (t : Option ℕ) (s l : ℕ) (ts : Trees) → Holds w base top low n ts → alone w n (kind t) (id-word t) s l ≡ is-tree t s l ts
+unfolding is-tree
+alone-is w base top low n t s l nil h = rw (eq-eqb n 0 h)
+alone-is w base top low n t s l (part s′ l′ ws rest) h =
+    let z : n + 0 ≡ n = omega arith in
+    rw (ne-eqb n 0 (λ e. omega (arith, h .node .live)), z, h .node .kind-at, ne-eqb (kind t) 2 (not-part t)) (no-kind (eqb (getD w (n + 5) 0) 0))
+alone-is w base top low n t s l (tree u s′ l′ kids rest) h =
+    let z : n + 0 ≡ n = omega arith in
+    rw (ne-eqb n 0 (λ e. omega (arith, h .node .live)), z, h .node .kind-at, h .node .id-at, h .node .start-at, h .node .length-at, lone-next w base top low _ u s′ l′ kids rest (h .next))
+    (five (lone (tree u s′ l′ kids rest)) (eqb (kind t) (kind u)) (eqb (id-word t) (id-word u)) (eqb s s′) (eqb l l′)
+    ∙ ap (λ (x : Bool). lone (tree u s′ l′ kids rest) && (x && (eqb s s′ && eqb l l′))) (same-words t u))
+
+and-first : (a b : Bool) → (a && b) ≡ true → a ≡ true
+and-first true b e = refl
+and-first false b e = e
+
+lone-one : (t : Option ℕ) (s l : ℕ) (kids rest : Trees) → lone (tree t s l kids rest) ≡ true → siblings (tree t s l kids rest) ≡ 1
+unfolding lone siblings
+lone-one t s l kids nil e = refl
+lone-one t s l kids (tree u s′ l′ ks more) e = let z : _≡_ {A = Bool} true false = sym e in let y : _≡_ {A = ℕ} 0 1 = cc in absurd (omega arith)
+lone-one t s l kids (part s′ l′ ws more) e = let z : _≡_ {A = Bool} true false = sym e in let y : _≡_ {A = ℕ} 0 1 = cc in absurd (omega arith)
+
+pub is-one : (t : Option ℕ) (s l : ℕ) (ts : Trees) → is-tree t s l ts ≡ true → siblings ts ≡ 1
+unfolding is-tree
+is-one t s l nil e = let y : _≡_ {A = ℕ} 0 1 = cc in absurd (omega arith)
+is-one t s l (part s′ l′ ws rest) e = let y : _≡_ {A = ℕ} 0 1 = cc in absurd (omega arith)
+is-one t s l (tree u s′ l′ kids rest) e = lone-one u s′ l′ kids rest (and-first _ _ e)
+
+joined-same : (t : Option ℕ) (s l : ℕ) (ts : Trees) → is-tree t s l ts ≡ true → joined t s l ts ≡ ts
+unfolding joined
+joined-same t s l ts e = ap (λ (b : Bool). elim b [ true ↦ ts | false ↦ tree t s l ts nil ]) e
+
+joined-new : (t : Option ℕ) (s l : ℕ) (ts rest : Trees) → is-tree t s l ts ≡ false → joined t s l ts ⊕ rest ≡ tree t s l ts rest
+unfolding joined _⊕_
+joined-new t s l ts rest e = ap (λ (b : Bool). elim b [ true ↦ ts | false ↦ tree t s l ts nil ] ⊕ rest) e
+
+module _ (w : List ℕ) (top node kd i s l next : ℕ) where
+  pub is-at : (p : JoinReady w top node kd i next) (x : Bool) → x ≡ alone w node kd i s l → is-tree (p .type) s l (p .ts) ≡ x
+  is-at p x e = sym (e ∙ rw (p .kind-is, p .id-is) (alone-is w (p .base) top (p .low) node (p .type) s l (p .ts) (p .holds)))
+
+  pub join-node : JoinReady w top node kd i next → Readable w node
+  join-node p = readable w (p .base) top (p .low) node (p .ts) (omega (arith, p .room, p .inside)) (p .holds)
+
+  pub join-next : JoinReady w top node kd i next → Readable w next
+  join-next p = readable w (p .base) top (p .low) next (p .rest) (omega (arith, p .room, p .inside)) (p .onto)
+
+  pub join-room : JoinReady w top node kd i next → top + 10 ≤ length w
+  join-room p = omega (arith, p .room, p .inside)
+
+  pub join-fits : JoinReady w top node kd i next → top + 10 ≤ 4294967295
+  join-fits p = omega (arith, p .room, p .fits)
+
+  abbrev pub join-copy : (x : Bool) → x ≡ alone w node kd i s l → x ≡ true → JoinReady w top node kd i next → CopyReady w top node next
+  join-copy x e y p = record {
+    base = p .base;
+    low = p .low;
+    first = p .ts;
+    tail = nil;
+    rest = p .rest;
+    live = p .live;
+    above = p .above;
+    room = p .room;
+    inside = p .inside;
+    fits = p .fits;
+    one = is-one (p .type) s l (p .ts) (is-at p x e ∙ y);
+    holds = rw (⊕-nil (p .ts)) (p .holds);
+    onto = p .onto;
+  }
+
+  pub join-copied : (x : Bool) → x ≡ alone w node kd i s l → x ≡ true → (w′ : List ℕ) (rtop rnode : ℕ) → Copied w w′ top node next rtop rnode → Joined w w′ top node kd i s l next rtop rnode
+  join-copied x e y w′ rtop rnode c = record {
+    top-is = c .top-is;
+    kept = c .kept;
+    holds = λ p. rw (joined-same (p .type) s l (p .ts) (is-at p x e ∙ y)) (c .holds (join-copy x e y p));
+  }
+
+  pub join-pushed : (x : Bool) → x ≡ alone w node kd i s l → x ≡ false → (w′ : List ℕ) (r : ℕ) → PushedTree w w′ top kd i s l node next r → Joined w w′ top node kd i s l next (top + 10) r
+  join-pushed x e y w′ r q = record {
+    top-is = refl;
+    kept = q .kept;
+    holds = λ p. rw (joined-new (p .type) s l (p .ts) (p .rest) (is-at p x e ∙ y))
+        (q .holds (p .base) (p .low) (p .type) (p .ts) (p .rest) (p .live) (p .above) (p .room) (p .kind-is) (p .id-is) (p .holds) (p .onto));
+  }

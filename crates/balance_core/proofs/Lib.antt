@@ -1,0 +1,11 @@
+pub mod Lists
+pub mod Sizes
+pub mod Growth
+pub mod OneGroup
+pub mod Copies
+pub mod Joins
+pub mod Stack
+pub mod Pushes
+pub mod Placing
+pub mod Dividing
+pub mod Outer
