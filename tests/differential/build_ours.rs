@@ -1,6 +1,6 @@
 //! The library's build, through its C interface: each slice is a pointer and a number of elements.
 
-use crate::build_case::Case;
+use crate::builds::case::Case;
 
 #[link(name = "gateway", kind = "static")]
 unsafe extern "C" {

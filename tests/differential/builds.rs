@@ -1,15 +1,22 @@
 //! The runs over the build: short lists, all of them; lists at the limits; deep and long ones; random and damaged ones.
 
+pub mod bench;
+mod bundles;
+pub mod case;
+mod compare;
+pub mod record;
+mod short;
+mod tally;
+
 use std::process::ExitCode;
 use std::thread;
 use std::time::Instant;
 
-use crate::build_bundles::{self, Around, Bundle, FIRST_REPEAT, PLACES, Place, TYPES};
-use crate::build_case::{Case, Kept, Numbers, without_one};
-use crate::build_compare::BuildSession;
-use crate::build_short;
-use crate::build_tally::{BuildTally, Difference};
-use crate::list_cases::{self, Shape, Stuff};
+use self::bundles::{Around, Bundle, FIRST_REPEAT, PLACES, Place, TYPES};
+use self::case::{Case, Kept, Numbers, without_one};
+use self::compare::BuildSession;
+use self::tally::{BuildTally, Difference};
+use crate::lists::cases::{Shape, Stuff, any_shape, damaged, good_list};
 use crate::random_lists;
 use crate::rng::Rng;
 use crate::tally::Input;
@@ -105,12 +112,10 @@ impl Share {
 
     fn work(mut self) -> BuildTally {
         self.timed("short, all of them", |share| {
-            build_short::spelt(&mut |numbers, words| {
-                share.list("short, all of them", numbers, words)
-            });
+            short::spelt(&mut |numbers, words| share.list("short, all of them", numbers, words));
         });
         self.timed("short and accepted, all", |share| {
-            build_short::accepted(&mut |numbers, words| {
+            short::accepted(&mut |numbers, words| {
                 share.list("short and accepted, all", numbers, words);
             });
         });
@@ -177,7 +182,7 @@ impl Share {
 
     fn empty(&mut self, count: usize, place: Place, bound: u32) {
         if self.mine() {
-            let words = build_bundles::empties(count, place);
+            let words = bundles::empties(count, place);
             let numbers = Numbers::plain(TYPES, FIRST_REPEAT, bound);
             self.session.check("empty siblings", &numbers.with(&words));
         }
@@ -198,7 +203,7 @@ impl Share {
             for ordinary in [16_382, 16_383, 16_384, 16_390] {
                 for repeats in [0, 1, 500, 9_000] {
                     if self.mine() {
-                        let words = build_bundles::tight(&mut rng, shape, ordinary, repeats);
+                        let words = bundles::tight(&mut rng, shape, ordinary, repeats);
                         let bound = rng.pick(&[0, 1, 1_024, 65_535]);
                         let numbers = Numbers::plain(TYPES, FIRST_REPEAT, bound);
                         self.session.check("full parts", &numbers.with(&words));
@@ -244,7 +249,7 @@ impl Share {
                 first_repeat: inner.first_repeat,
                 types: inner.types,
             };
-            let words = build_bundles::wrapped(&mut rng, &inner.records(), around);
+            let words = bundles::wrapped(&mut rng, &inner.records(), around);
             self.session.check("deep", &numbers.with(&words));
         }
     }
@@ -269,10 +274,10 @@ impl Share {
         for shape in shapes {
             for bound in [0, 40, 1_024, 65_535] {
                 if self.mine() && !slow(shape, bound) {
-                    let words = build_bundles::bundle(&mut rng, shape, LONG);
+                    let words = bundles::bundle(&mut rng, shape, LONG);
                     let numbers = Numbers::plain(TYPES, FIRST_REPEAT, bound);
                     self.session.check("200,000 records", &numbers.with(&words));
-                    let copy = list_cases::damaged(&mut rng, TYPES, &words);
+                    let copy = damaged(&mut rng, TYPES, &words);
                     self.session.check("200,000 records", &numbers.with(&copy));
                 }
             }
@@ -289,9 +294,9 @@ impl Share {
                 gap: rng.pick(&[0, 0, 2]),
                 length: rng.pick(&[0, 1, 40]),
             };
-            let shape = list_cases::any_shape(&mut rng);
+            let shape = any_shape(&mut rng);
             let count = 1_500 + rng.below(4_000);
-            let words = list_cases::good_list(&mut rng, &stuff, count, shape);
+            let words = good_list(&mut rng, &stuff, count, shape);
             let numbers = any_numbers(&mut rng, &stuff);
             self.session
                 .check("thousands of records", &numbers.with(&words));
@@ -331,7 +336,7 @@ fn random(session: &mut BuildSession, rng: &mut Rng) {
         };
         session.check("random, other numbers", &other.with(&words));
     }
-    let copy = list_cases::damaged(rng, list.types, &words);
+    let copy = damaged(rng, list.types, &words);
     session.check("damaged", &numbers.with(&copy));
 }
 
@@ -344,9 +349,9 @@ fn written(session: &mut BuildSession, rng: &mut Rng) {
         length: rng.pick(&[0, 1, 3, 20, 70_000]),
     };
     let most = rng.pick(&[4, 8, 12, 20, 40, 120]);
-    let shape = list_cases::any_shape(rng);
+    let shape = any_shape(rng);
     let count = rng.below(most + 1);
-    let words = list_cases::good_list(rng, &stuff, count, shape);
+    let words = good_list(rng, &stuff, count, shape);
     let numbers = any_numbers(rng, &stuff);
     let mut case = numbers.with(&words);
     match rng.below(40) {

@@ -1,6 +1,6 @@
 //! The library's list check, through its C interface: each slice is a pointer and a number of elements.
 
-use crate::list_model::List;
+use crate::lists::model::List;
 
 #[link(name = "gateway", kind = "static")]
 unsafe extern "C" {

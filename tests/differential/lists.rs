@@ -1,12 +1,18 @@
 //! The runs over the list check: short lists, all of them; random and damaged lists; long ones.
 
+pub mod bench;
+pub mod cases;
+mod compare;
+pub mod model;
+pub mod record;
+mod short;
+
 use std::process::ExitCode;
 use std::time::Instant;
 
-use crate::list_cases::{self, Shape, Stuff};
-use crate::list_compare::ListSession;
-use crate::list_model::{self, List, work_words};
-use crate::list_short;
+use self::cases::{Shape, Stuff};
+use self::compare::ListSession;
+use self::model::{List, work_words};
 use crate::rng::Rng;
 
 /// The most records that document 01 accepts.
@@ -26,7 +32,7 @@ pub fn run(seed: u64, cases: u64) -> ExitCode {
     println!("seed {seed}, lists {cases} or more");
     let mut session = ListSession::default();
     let mut rng = Rng::new(seed);
-    timed(&mut session, "short lists, all of them", list_short::run);
+    timed(&mut session, "short lists, all of them", short::run);
     timed(&mut session, "the longest lists", longest);
     timed(&mut session, "long lists", |session| {
         long(session, &mut rng)
@@ -66,13 +72,13 @@ fn random(session: &mut ListSession, rng: &mut Rng) {
     };
     let most = rng.pick(&[4, 8, 12, 20, 40, 120]);
     let records = rng.below(most + 1);
-    let shape = list_cases::any_shape(rng);
-    let words = list_cases::good_list(rng, &stuff, records, shape);
+    let shape = cases::any_shape(rng);
+    let words = cases::good_list(rng, &stuff, records, shape);
     for _ in 0..4 {
         session.check(&numbered(rng, &stuff, &words));
     }
     for _ in 0..8 {
-        let copy = list_cases::damaged(rng, stuff.types, &words);
+        let copy = cases::damaged(rng, stuff.types, &words);
         session.check(&numbered(rng, &stuff, &copy));
     }
 }
@@ -120,10 +126,10 @@ fn thousands(session: &mut ListSession, rng: &mut Rng) {
                 gap: 2,
                 length: 40,
             };
-            let words = list_cases::good_list(rng, &stuff, records, shape);
+            let words = cases::good_list(rng, &stuff, records, shape);
             session.check(&numbered(rng, &stuff, &words));
             for _ in 0..12 {
-                let copy = list_cases::damaged(rng, stuff.types, &words);
+                let copy = cases::damaged(rng, stuff.types, &words);
                 session.check(&numbered(rng, &stuff, &copy));
             }
         }
@@ -140,8 +146,8 @@ fn long(session: &mut ListSession, rng: &mut Rng) {
             length: 9,
         };
         let records = 30_000;
-        let mut words = list_cases::good_list(rng, &stuff, records, shape);
-        let expected = list_model::accepted(records);
+        let mut words = cases::good_list(rng, &stuff, records, shape);
+        let expected = model::accepted(records);
         session.check_against(&plain(&stuff, &words), expected);
         let at = records / 2 + rng.below(records / 2);
         for (word, bad, number) in [
@@ -151,7 +157,7 @@ fn long(session: &mut ListSession, rng: &mut Rng) {
             (3, u32::MAX - 3, 8),
         ] {
             let good = std::mem::replace(&mut words[at * 4 + word], bad);
-            let expected = list_model::refused(number, at);
+            let expected = model::refused(number, at);
             session.check_against(&plain(&stuff, &words), expected);
             words[at * 4 + word] = good;
         }
@@ -176,8 +182,8 @@ fn plain<'a>(stuff: &Stuff, words: &'a [u32]) -> List<'a> {
 fn longest(session: &mut ListSession) {
     for records in [MOST_RECORDS, MOST_RECORDS + 1] {
         let expected = match records {
-            MOST_RECORDS => list_model::accepted(records),
-            _ => list_model::refused(5, 0),
+            MOST_RECORDS => model::accepted(records),
+            _ => model::refused(5, 0),
         };
         for chain in [false, true] {
             let words: Vec<u32> = (0..records as u32)

@@ -9,7 +9,7 @@ use std::panic::{AssertUnwindSafe, catch_unwind, set_hook, take_hook};
 use std::sync::Arc;
 
 use crate::TextSize;
-use crate::list_model::List;
+use crate::lists::model::List;
 
 #[allow(dead_code, unused_imports, clippy::all)]
 pub mod prop {
@@ -35,7 +35,7 @@ pub mod tree {
     ));
 
     /// The private search, which calls the private `check_side`.
-    pub fn search_buffer(buffer: &TreeBuffer, call: &crate::model::Search) -> Option<usize> {
+    pub fn search_buffer(buffer: &TreeBuffer, call: &crate::parts::model::Search) -> Option<usize> {
         find_buffer_child(
             buffer,
             call.from,
@@ -152,6 +152,9 @@ pub fn slice(
 }
 
 /// The search: the offset of the match, or none. Some bounds make it run for ever: see `compare.rs`.
-pub fn search(buffer: &TreeBuffer, call: &crate::model::Search) -> Result<Option<usize>, Panicked> {
+pub fn search(
+    buffer: &TreeBuffer,
+    call: &crate::parts::model::Search,
+) -> Result<Option<usize>, Panicked> {
     guarded(|| tree::search_buffer(buffer, call))
 }

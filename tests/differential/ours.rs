@@ -1,6 +1,6 @@
 //! The library's part calls, through its C interface: each slice is a pointer and a number of elements.
 
-use crate::model::{Search, Slice};
+use crate::parts::model::{Search, Slice};
 
 #[link(name = "gateway", kind = "static")]
 unsafe extern "C" {

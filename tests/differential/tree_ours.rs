@@ -1,6 +1,6 @@
 //! The library's tree calls, through their C interface: each slice is a pointer and a number of elements.
 
-use crate::tree_model::Handed;
+use crate::trees::model::Handed;
 
 #[link(name = "gateway", kind = "static")]
 unsafe extern "C" {

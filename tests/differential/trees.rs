@@ -1,19 +1,26 @@
 //! The runs over the tree calls: short slices of cells, all of them; large trees; random and damaged ones.
 
+pub mod bench;
+mod cases;
+mod compare;
+pub mod model;
+pub mod record;
+pub mod rust_trees;
+mod short;
+
 use std::process::ExitCode;
 use std::sync::Arc;
 use std::time::Instant;
 
-use crate::list_cases::{self, Shape, Stuff};
+use self::cases::Mix;
+use self::compare::TreeSession;
+use self::model::Handed;
+use self::rust_trees::cells_of;
+use crate::lists::cases::{Shape, Stuff, any_shape};
 use crate::oracle::Oracle;
 use crate::rng::Rng;
 use crate::shapes;
 use crate::tree::{NodeSet, TreeBuild};
-use crate::tree_cases::{self, Mix};
-use crate::tree_compare::TreeSession;
-use crate::tree_model::Handed;
-use crate::tree_rust::cells_of;
-use crate::tree_short;
 use crate::{TextSize, Tree, random_lists};
 
 /// Damaged copies of each random tree.
@@ -38,7 +45,7 @@ fn compare(seed: u64, cases: u64) -> ExitCode {
     timed(
         &mut session,
         "short slices of cells, all of them",
-        tree_short::run,
+        short::run,
     );
     timed(&mut session, "large trees", |session| {
         large(session, &mut rng)
@@ -75,7 +82,7 @@ fn random(session: &mut TreeSession, rng: &mut Rng, sets: &[Arc<NodeSet>]) {
     let tree = any_tree(session.oracle(), rng, sets);
     session.check(&tree);
     for _ in 0..COPIES {
-        let mut copy = tree_cases::damaged(rng, &tree);
+        let mut copy = cases::damaged(rng, &tree);
         if rng.one_in(10) {
             copy = tree.clone();
             renumber(rng, &mut copy);
@@ -131,9 +138,9 @@ fn written(rng: &mut Rng) -> Handed {
         length: rng.pick(&[0, 1, 3, 20, 20_000, 100_000_000]),
     };
     let most = rng.pick(&[1, 4, 12, 40, 120, 400]);
-    let (nodes, shape) = (rng.below(most + 1), list_cases::any_shape(rng));
-    let mix = tree_cases::any_mix(rng);
-    tree_cases::good_tree(rng, &stuff, nodes, shape, mix)
+    let (nodes, shape) = (rng.below(most + 1), any_shape(rng));
+    let mix = cases::any_mix(rng);
+    cases::good_tree(rng, &stuff, nodes, shape, mix)
 }
 
 /// The tree of a random record list, with the numbers of its build.
@@ -175,9 +182,9 @@ fn large(session: &mut TreeSession, rng: &mut Rng) {
         for (parts, none, run) in mixes {
             for nodes in [1_000, 16_383, 16_384] {
                 let mix = Mix { parts, none, run };
-                let tree = tree_cases::good_tree(rng, &stuff, nodes, shape, mix);
+                let tree = cases::good_tree(rng, &stuff, nodes, shape, mix);
                 session.check(&tree);
-                session.check(&tree_cases::damaged(rng, &tree));
+                session.check(&cases::damaged(rng, &tree));
             }
         }
     }

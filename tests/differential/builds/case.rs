@@ -1,6 +1,6 @@
 //! A record list with what a build is given with it, and what is read off its records alone.
 
-use crate::list_model::{List, work_words};
+use crate::lists::model::{List, work_words};
 use crate::tally::{Input, shortened};
 
 /// A list as the list check takes it, and a given length or none.

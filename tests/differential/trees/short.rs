@@ -1,7 +1,7 @@
 //! Every short slice of cells over small alphabets, good and bad.
 
-use crate::tree_compare::TreeSession;
-use crate::tree_model::Handed;
+use crate::trees::compare::TreeSession;
+use crate::trees::model::Handed;
 
 /// What each of the seven words of a cell is made of.
 type Alphabet = [&'static [u32]; 7];

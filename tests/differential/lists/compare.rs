@@ -1,8 +1,8 @@
 //! One list at a time: library against model in everything, library against the Rust where it can be asked.
 
 use crate::lent::{Filling, Lent, UNTOUCHED};
-use crate::list_model::{self, List, Verdict};
 use crate::list_ours;
+use crate::lists::model::{self, List, Verdict};
 use crate::oracle::{Oracle, Panicked};
 use crate::tally::{Input, Outcome, Tally, shortened};
 
@@ -60,7 +60,7 @@ pub struct ListSession {
 impl ListSession {
     /// Compares one list with the model and with the Rust.
     pub fn check(&mut self, list: &List) {
-        self.check_against(list, list_model::check(list));
+        self.check_against(list, model::check(list));
     }
 
     /// The same where the answer is known from the way the list was made.

@@ -1,6 +1,6 @@
 //! A part with a call on it, as the tables need it.
 
-use crate::model::{Search, Slice};
+use crate::parts::model::{Search, Slice};
 use crate::tally::{Input, shortened};
 
 #[derive(Clone, Copy, Debug)]

@@ -7,10 +7,10 @@ use std::collections::{BTreeMap, HashSet};
 use std::path::Path;
 use std::process::ExitCode;
 
-use crate::list_cases::{self, Stuff};
-use crate::list_model::{self, List, work_words};
+use crate::lists::cases::{self, Stuff};
+use crate::lists::model::{self, List, work_words};
 use crate::oracle::Oracle;
-use crate::record;
+use crate::parts::record;
 use crate::rng::Rng;
 
 /// Enough tries to fill every kind that can be filled.
@@ -74,11 +74,11 @@ impl Sample {
             gap: rng.pick(&[0, 1, 3]),
             length: rng.pick(&[0, 1, 8, 70_000]),
         };
-        let shape = list_cases::any_shape(rng);
+        let shape = cases::any_shape(rng);
         let records = rng.below(MOST_RECORDS + 1);
-        let mut words = list_cases::good_list(rng, &stuff, records, shape);
+        let mut words = cases::good_list(rng, &stuff, records, shape);
         if rng.one_in(2) {
-            words = list_cases::damaged(rng, stuff.types, &words);
+            words = cases::damaged(rng, stuff.types, &words);
         }
         let types = stuff.types;
         let mut list = List {
@@ -103,7 +103,7 @@ impl Sample {
     /// Takes a list on which both agree, unless its kind is full or it has been taken before.
     fn take(&mut self, list: &List) {
         let records = list.words.len() / 4;
-        let number = list_model::check(&List {
+        let number = model::check(&List {
             work: work_words(records),
             ..*list
         })

@@ -1,7 +1,7 @@
 //! Every short list over small alphabets, good and bad, under numbers around every boundary.
 
-use crate::list_compare::ListSession;
-use crate::list_model::{List, work_words};
+use crate::lists::compare::ListSession;
+use crate::lists::model::{List, work_words};
 
 const MAX: u32 = u32::MAX;
 

@@ -2,7 +2,7 @@
 
 use std::collections::BTreeMap;
 
-use crate::build_case::{Case, Kept};
+use crate::builds::case::{Case, Kept};
 use crate::tally::Input;
 
 /// A list on which library and Rust differ.

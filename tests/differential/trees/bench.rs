@@ -4,13 +4,14 @@ use std::hint::black_box;
 use std::process::ExitCode;
 use std::time::Instant;
 
-use crate::list_cases::{self, Shape, Stuff};
+use crate::lists::cases::{Shape, Stuff, good_list};
 use crate::oracle::Oracle;
 use crate::rng::Rng;
 use crate::tree::{NodeType, TreeChild};
-use crate::tree_cases::{self, Mix};
-use crate::tree_model::{Handed, work_words};
-use crate::{Tree, tree_ours, tree_rust};
+use crate::trees::cases::{self, Mix};
+use crate::trees::model::{Handed, work_words};
+use crate::trees::rust_trees;
+use crate::{Tree, tree_ours};
 
 /// Each figure is the best of so many repeats.
 const REPEATS: usize = 7;
@@ -88,8 +89,8 @@ fn grown(rng: &mut Rng, shape: Shape, mix: Mix) -> Handed {
         Shape::Binary => (1 << 20) - 1,
         _ => NODES,
     };
-    let records = list_cases::good_list(rng, &stuff, nodes, shape);
-    let mut tree = tree_cases::tree_over(rng, TYPES, &tree_cases::forest(&records), mix);
+    let records = good_list(rng, &stuff, nodes, shape);
+    let mut tree = cases::tree_over(rng, TYPES, &cases::forest(&records), mix);
     tree.first_repeat = TYPES - 20;
     tree.start = 7;
     tree
@@ -113,7 +114,7 @@ impl Bench {
 
     fn measure(&mut self, name: &str, tree: &Handed) {
         let set = self.oracle.set(tree.types).expect("a set of few types");
-        let rust = tree_rust::tree_of(tree, &set);
+        let rust = rust_trees::tree_of(tree, &set);
         let mut info = [0; 3];
         let (work, out) = (&mut self.work, &mut self.out);
         let mut packed = vec![0; tree.words.len()];

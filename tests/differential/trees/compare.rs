@@ -4,8 +4,9 @@ use crate::flatten;
 use crate::lent::{Filling, Lent, UNTOUCHED};
 use crate::oracle::{Oracle, Panicked};
 use crate::tally::{Input, Outcome, Tally, shortened};
-use crate::tree_model::{self, Handed, Verdict};
-use crate::{tree_ours, tree_rust};
+use crate::tree_ours;
+use crate::trees::model::{self, Handed, Verdict};
+use crate::trees::rust_trees;
 
 /// The noise changes once in so many trees.
 const NEW_NOISE_EVERY: u64 = 64;
@@ -93,16 +94,16 @@ impl Expected {
 
     /// The answer on slices of these sizes.
     fn verdict(&self, types: u32, lent: &Slices) -> Verdict {
-        if let Some(verdict) = tree_model::early(types, self.work, lent.work, self.bad) {
+        if let Some(verdict) = model::early(types, self.work, lent.work, self.bad) {
             return verdict;
         }
         if lent.room < self.written.len() {
-            return tree_model::refused(self.call.no_room(), 0);
+            return model::refused(self.call.no_room(), 0);
         }
         if lent.packed < self.packed.len() {
-            return tree_model::refused(13, 0);
+            return model::refused(13, 0);
         }
-        tree_model::accepted(self.counts)
+        model::accepted(self.counts)
     }
 }
 
@@ -166,7 +167,7 @@ impl TreeSession {
             self.lent.stir();
         }
         self.list(tree);
-        let bad = tree_model::bad_cell(tree.types, 0, true, &tree.cells, &tree.words);
+        let bad = model::bad_cell(tree.types, 0, true, &tree.cells, &tree.words);
         let mut expected = Expected::new(Call::Materialise, bad, work_for(tree));
         if bad.is_some() || tree.types > 65_536 {
             self.compare(tree, &expected);
@@ -181,7 +182,7 @@ impl TreeSession {
 
     /// Materialise on an accepted tree, and list on what it gives.
     fn materialise(&mut self, tree: &Handed, rust: &crate::Tree) {
-        let (cells, words) = tree_rust::cells_of(&rust.materialize());
+        let (cells, words) = rust_trees::cells_of(&rust.materialize());
         assert!(words.is_empty(), "a part in a materialised tree");
         let mut expected = Expected::new(Call::Materialise, None, work_for(tree));
         expected.counts = [cells.len() / 7, 0];
@@ -196,7 +197,7 @@ impl TreeSession {
 
     /// Balance on an accepted tree.
     fn balance(&mut self, tree: &Handed, rust: &crate::Tree) {
-        let (cells, words) = tree_rust::cells_of(&rust.balance());
+        let (cells, words) = rust_trees::cells_of(&rust.balance());
         self.seen.balanced += u64::from(cells != tree.cells);
         let mut expected = Expected::new(Call::Balance, None, work_for(tree));
         expected.counts = [cells.len() / 7, words.len()];
@@ -206,8 +207,8 @@ impl TreeSession {
     }
 
     fn list(&mut self, tree: &Handed) {
-        let bad = tree_model::bad_cell(tree.types, tree.start, false, &tree.cells, &[]);
-        let work = tree_model::work_words(tree.cells.len(), 0);
+        let bad = model::bad_cell(tree.types, tree.start, false, &tree.cells, &[]);
+        let work = model::work_words(tree.cells.len(), 0);
         let mut expected = Expected::new(Call::List, bad, work);
         if bad.is_none() && tree.types <= 65_536 {
             let plain = Handed {
@@ -218,7 +219,7 @@ impl TreeSession {
                 return;
             };
             let lines = flatten::lines(&rust.materialize(), tree.first_repeat, tree.start);
-            expected.written = tree_rust::narrow(&lines);
+            expected.written = rust_trees::narrow(&lines);
             expected.counts = [lines.len() / 4, 0];
             self.seen.lines += lines.len() as u64 / 4;
         }
@@ -228,8 +229,8 @@ impl TreeSession {
     /// The Rust's tree of accepted cells, which written again are the same cells; else a difference is counted.
     fn rust_tree(&mut self, tree: &Handed) -> Option<crate::Tree> {
         let set = self.oracle.set(tree.types).ok()?;
-        let rust = tree_rust::tree_of(tree, &set);
-        let again = tree_rust::cells_of(&rust);
+        let rust = rust_trees::tree_of(tree, &set);
+        let again = rust_trees::cells_of(&rust);
         if again.0 == tree.cells && again.1 == tree.words {
             return Some(rust);
         }
@@ -354,7 +355,7 @@ impl TreeSession {
 
 /// The work slice that materialise and balance ask for.
 fn work_for(tree: &Handed) -> usize {
-    tree_model::work_words(tree.cells.len(), tree.words.len())
+    model::work_words(tree.cells.len(), tree.words.len())
 }
 
 /// So many words and some behind them, all of one value.

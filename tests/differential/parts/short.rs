@@ -1,7 +1,7 @@
 //! Every short part over small alphabets, good and bad, with every bound, side and direction.
 
-use crate::compare::{Part, Session};
-use crate::model::{Search, Slice};
+use crate::parts::compare::{Part, Session};
+use crate::parts::model::{Search, Slice};
 
 /// Numbers of types: none, few, as many as ids have, and one too many.
 const TYPES: [u32; 5] = [0, 1, 2, 65_536, 65_537];

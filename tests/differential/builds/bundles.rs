@@ -1,7 +1,7 @@
 //! Long lists: the bundles of the build's measurements, and lists at the limits of parts and of depth.
 
-use crate::build_case::Records;
-use crate::list_cases::{self, Shape, Stuff};
+use crate::builds::case::Records;
+use crate::lists::cases::{Shape, Stuff, good_list};
 use crate::rng::Rng;
 
 /// The shapes of a long list. Types are 0 to 2, and 2 is a repeat id where one is.
@@ -98,7 +98,7 @@ fn mixed(rng: &mut Rng, records: &mut Records, count: usize, from: u32) -> u32 {
         gap: 1,
         length: 9,
     };
-    let words = list_cases::good_list(rng, &stuff, count, Shape::Mixed(60, 5));
+    let words = good_list(rng, &stuff, count, Shape::Mixed(60, 5));
     let end = words.chunks(4).map(|it| it[2]).max().unwrap_or(from);
     records.words.extend(words);
     end
@@ -187,7 +187,7 @@ pub fn tight(rng: &mut Rng, shape: Shape, ordinary: usize, repeats: usize) -> Ve
         length: 0,
     };
     let count = ordinary + repeats;
-    let mut words = list_cases::good_list(rng, &stuff, count, shape);
+    let mut words = good_list(rng, &stuff, count, shape);
     let mut left = repeats;
     for number in 0..count {
         if rng.below(count - number) < left {

@@ -5,10 +5,10 @@ use std::process::ExitCode;
 use std::time::Instant;
 
 use crate::TextSize;
-use crate::cases::{self, MOST_RECORDS, Nesting};
-use crate::model::{Search, Slice};
 use crate::oracle::{Oracle, tree};
 use crate::ours;
+use crate::parts::cases::{self, MOST_RECORDS, Nesting};
+use crate::parts::model::{Search, Slice};
 use crate::rng::Rng;
 
 const TYPES: u32 = 300;

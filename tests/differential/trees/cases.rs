@@ -1,9 +1,9 @@
 //! Random trees as cells and packed words, and damaged copies of them.
 
 use crate::forests::Node;
-use crate::list_cases::{self, Shape, Stuff};
+use crate::lists::cases::{Shape, Stuff, good_list};
 use crate::rng::Rng;
-use crate::tree_model::Handed;
+use crate::trees::model::Handed;
 
 /// How the nodes of a forest become cells.
 #[derive(Clone, Copy, Debug)]
@@ -32,7 +32,7 @@ const MOST_RECORDS: usize = 16_383;
 
 /// A tree over a random forest of so many nodes.
 pub fn good_tree(rng: &mut Rng, stuff: &Stuff, nodes: usize, shape: Shape, mix: Mix) -> Handed {
-    let records = list_cases::good_list(rng, stuff, nodes, shape);
+    let records = good_list(rng, stuff, nodes, shape);
     tree_over(rng, stuff.types, &forest(&records), mix)
 }
 

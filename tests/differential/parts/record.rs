@@ -8,10 +8,10 @@ use std::fmt::{Display, Write};
 use std::path::Path;
 use std::process::ExitCode;
 
-use crate::cases;
-use crate::compare::{Part, search_rust, slice_rust};
-use crate::model::{self, Search, Slice};
 use crate::oracle::Oracle;
+use crate::parts::cases;
+use crate::parts::compare::{Part, search_rust, slice_rust};
+use crate::parts::model::{self, Search, Slice};
 use crate::rng::Rng;
 
 /// What every output slice holds before a call.

@@ -5,7 +5,7 @@ use std::sync::Arc;
 use crate::TextSize;
 use crate::flatten::{Flat, flatten};
 use crate::tree::{NodeSet, NodeType, Tree, TreeBuffer, TreeChild};
-use crate::tree_model::Handed;
+use crate::trees::model::Handed;
 
 /// The tree that cells and words stand for, where they keep the cell rules.
 pub fn tree_of(tree: &Handed, set: &Arc<NodeSet>) -> Tree {

@@ -1,7 +1,7 @@
 //! Random parts, damaged copies of them, and calls with figures around every boundary.
 
-use crate::compare::{Part, Session};
-use crate::model::{Search, Slice};
+use crate::parts::compare::{Part, Session};
+use crate::parts::model::{Search, Slice};
 use crate::rng::Rng;
 
 /// The records of the longest part that can be accepted: end indices have 16 bits.

@@ -3,7 +3,7 @@
 //! Links are followed as written: a chain begins at first and goes on by next, and a link that does not lead to a later cell ends
 //! it and counts against the cell that holds it (docs/DECISIONS.md). Nothing here is shared with the library.
 
-use crate::model;
+use crate::parts::model;
 
 /// A tree as it is handed in, with the numbers that the calls take beside it.
 #[derive(Clone, Debug)]

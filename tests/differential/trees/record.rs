@@ -9,10 +9,12 @@ use std::process::ExitCode;
 use std::sync::Arc;
 
 use crate::oracle::{Oracle, Panicked, guarded};
+use crate::parts::record;
 use crate::rng::Rng;
 use crate::tree::NodeSet;
-use crate::tree_model::{self, Handed};
-use crate::{Tree, flatten, record, tree_cases, tree_rust, trees};
+use crate::trees::model::{self, Handed};
+use crate::trees::{cases, rust_trees};
+use crate::{Tree, flatten, trees};
 
 /// Enough tries to fill every kind that can be filled.
 const TRIES: usize = 40_000;
@@ -117,7 +119,7 @@ impl Sample {
     fn draw(&mut self, rng: &mut Rng, sets: &[Arc<NodeSet>]) {
         let mut tree = trees::any_tree(&mut self.oracle, rng, sets);
         if rng.one_in(3) && !tree.words.is_empty() {
-            tree = tree_cases::with_packed_word_changed(rng, &tree);
+            tree = cases::with_packed_word_changed(rng, &tree);
         }
         if rng.one_in(60) {
             tree.types = rng.pick(&[65_537, u32::MAX]);
@@ -130,7 +132,7 @@ impl Sample {
         if tree.cells.len() > MOST_CELLS || tree.words.len() > MOST_WORDS {
             return;
         }
-        let bad = tree_model::bad_cell(tree.types, 0, true, &tree.cells, &tree.words);
+        let bad = model::bad_cell(tree.types, 0, true, &tree.cells, &tree.words);
         let number = match (tree.types > 65_536, bad) {
             (true, _) => 1,
             (false, Some(_)) => 15,
@@ -150,7 +152,7 @@ impl Sample {
     /// The Rust's tree of cells whose links are good.
     fn rust(&mut self, tree: &Handed) -> Result<Tree, Panicked> {
         let set = self.oracle.set(tree.types)?;
-        guarded(|| tree_rust::tree_of(tree, &set))
+        guarded(|| rust_trees::tree_of(tree, &set))
     }
 
     /// Takes a call if it is accepted and the Rust answers, or refused and the Rust panics.
@@ -173,11 +175,11 @@ impl Sample {
             words: Vec::new(),
             ..*tree
         };
-        let bad = tree_model::bad_cell(listed.types, listed.start, false, &listed.cells, &[]);
+        let bad = model::bad_cell(listed.types, listed.start, false, &listed.cells, &[]);
         if bad.is_none() {
             let lines = flatten::lines(materialised, listed.first_repeat, listed.start);
             let answer = Answer {
-                written: tree_rust::narrow(&lines),
+                written: rust_trees::narrow(&lines),
                 words: Vec::new(),
             };
             self.take(rng, Call::List, &listed, 0, answer);
@@ -217,7 +219,7 @@ impl Sample {
 
 /// Cells and words of a Rust tree.
 fn cells_answer(tree: &Tree) -> Answer {
-    let (written, words) = tree_rust::cells_of(tree);
+    let (written, words) = rust_trees::cells_of(tree);
     Answer { written, words }
 }
 

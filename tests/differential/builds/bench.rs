@@ -5,13 +5,14 @@ use std::process::ExitCode;
 use std::thread;
 use std::time::Instant;
 
-use crate::build_bundles::{self, Bundle, FIRST_REPEAT, Place, TYPES};
-use crate::build_case::{Case, Numbers};
-use crate::list_model::work_words;
+use crate::builds::bundles::{self, Bundle, FIRST_REPEAT, Place, TYPES};
+use crate::builds::case::{Case, Numbers};
+use crate::lists::model::work_words;
 use crate::oracle::Oracle;
 use crate::rng::Rng;
 use crate::tree::TreeBuild;
-use crate::{TextSize, Tree, build_ours, tree_rust};
+use crate::trees::rust_trees;
+use crate::{TextSize, Tree, build_ours};
 
 /// The Rust recurses once for each nested record and tree.
 const STACK: usize = 1 << 30;
@@ -57,16 +58,16 @@ fn measure(seed: u64) -> ExitCode {
         ("random nesting", Bundle::Mixed),
     ];
     for (name, shape) in shapes {
-        let words = build_bundles::bundle(&mut rng, shape, BUNDLE);
+        let words = bundles::bundle(&mut rng, shape, BUNDLE);
         for bound in [0, 1_024, 65_535] {
             bench.row(name, &words, bound, true);
         }
     }
-    let words = build_bundles::bundle(&mut rng, Bundle::Mixed, 1_000_000);
+    let words = bundles::bundle(&mut rng, Bundle::Mixed, 1_000_000);
     for bound in [0, 1_024, 65_535] {
         bench.row("random nesting", &words, bound, true);
     }
-    let words = build_bundles::empties(MOST, Place::First);
+    let words = bundles::empties(MOST, Place::First);
     for bound in [0, 1_024, 65_535] {
         bench.row("empty siblings", &words, bound, false);
     }
@@ -125,7 +126,7 @@ impl Bench {
         let time = best(|| {
             built = Some(Tree::build(black_box(&build)));
         });
-        let written = tree_rust::cells_of(&built?);
+        let written = rust_trees::cells_of(&built?);
         assert!(written.0 == self.cells[..cells], "the cells differ");
         assert!(written.1 == self.words[..words], "the words differ");
         Some(time)

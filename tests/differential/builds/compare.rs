@@ -1,14 +1,15 @@
 //! One list at a time: the build against the Rust's, cell by cell and word by word, and the whole run against the ordinary
 //! reading of the records.
 
-use crate::build_case::{self, Case};
-use crate::build_tally::BuildTally;
+use crate::builds::case::{self, Case};
+use crate::builds::tally::BuildTally;
 use crate::lent::{Filling, Lent, UNTOUCHED};
-use crate::list_model::{List, Verdict, work_words};
+use crate::lists::model::{List, Verdict, work_words};
 use crate::oracle::{Oracle, Panicked};
 use crate::tally::shortened;
-use crate::tree_model::{self, Handed};
-use crate::{Tree, build_ours, flatten, list_ours, tree_ours, tree_rust};
+use crate::trees::model::{self, Handed};
+use crate::trees::rust_trees;
+use crate::{Tree, build_ours, flatten, list_ours, tree_ours};
 
 /// The noise changes once in so many lists.
 const NEW_NOISE_EVERY: u64 = 64;
@@ -121,7 +122,7 @@ impl BuildSession {
     fn accepted(&mut self, case: &Case) -> Result<(), String> {
         let built = self.oracle.build_given(&case.list, case.given);
         let rust = built.map_err(|Panicked| String::from("accepted, and the Rust panics"))?;
-        let (cells, words) = tree_rust::cells_of(&rust);
+        let (cells, words) = rust_trees::cells_of(&rust);
         let written = Written { cells, words };
         self.sized(case, &written)?;
         self.note(case, &written);
@@ -207,12 +208,12 @@ impl BuildSession {
             words: written.words,
         };
         let materialised = rust.materialize();
-        let (cells, _) = tree_rust::cells_of(&materialised);
+        let (cells, _) = rust_trees::cells_of(&materialised);
         let found = self.materialise(&built, cells.len())?;
         if found.cells != cells {
             return Err(format!("materialised {}", shortened(&found.cells)));
         }
-        let reading = build_case::reading(list.words, list.first_repeat);
+        let reading = case::reading(list.words, list.first_repeat);
         let lines = match reading.levels <= LEVELS {
             true => reading.lines,
             false => self.deep_lines(list, &materialised, &reading.lines),
@@ -223,14 +224,14 @@ impl BuildSession {
 
     /// The lines of a list that is nested too deep to be listed whole: those of the Rust's tree.
     fn deep_lines(&mut self, list: &List, tree: &Tree, reading: &[u32]) -> Vec<u32> {
-        let lines = tree_rust::narrow(&flatten::lines(tree, list.first_repeat, list.start));
+        let lines = rust_trees::narrow(&flatten::lines(tree, list.first_repeat, list.start));
         self.tally.seen.deep += 1;
         self.tally.seen.losing += u64::from(lines.len() < reading.len());
         lines
     }
 
     fn materialise(&mut self, tree: &Handed, room: usize) -> Result<Handed, String> {
-        let need = tree_model::work_words(tree.cells.len(), tree.words.len());
+        let need = model::work_words(tree.cells.len(), tree.words.len());
         let (work, _) = self.lent.filled(need, Filling::Left);
         let mut info = [UNTOUCHED; 3];
         let mut cells = vec![UNTOUCHED; room];
@@ -246,7 +247,7 @@ impl BuildSession {
     }
 
     fn list(&mut self, tree: &Handed, lines: &[u32]) -> Result<(), String> {
-        let need = tree_model::work_words(tree.cells.len(), 0);
+        let need = model::work_words(tree.cells.len(), 0);
         let (work, _) = self.lent.filled(need, Filling::Left);
         let mut info = [UNTOUCHED; 3];
         let mut found = vec![UNTOUCHED; lines.len()];

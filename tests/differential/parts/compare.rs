@@ -1,10 +1,10 @@
 //! One case at a time: library against model in everything, library against the Rust where the Rust has an answer.
 
 use crate::lent::UNTOUCHED;
-use crate::model::{self, Answer, Search, Slice};
 use crate::oracle::{self, Oracle, Panicked, TreeBuffer};
 use crate::ours;
-use crate::part_case::{Call, Case};
+use crate::parts::case::{Call, Case};
+use crate::parts::model::{self, Answer, Search, Slice};
 use crate::tally::{Outcome, Tally};
 
 /// One call in so many is made again with an answer slice of 0, 1, 2 or 3 words in turn.

@@ -4,9 +4,9 @@ use std::hint::black_box;
 use std::process::ExitCode;
 use std::time::Instant;
 
-use crate::list_cases::{self, Shape, Stuff};
-use crate::list_model::{List, work_words};
 use crate::list_ours;
+use crate::lists::cases::{self, Shape, Stuff};
+use crate::lists::model::{List, work_words};
 use crate::rng::Rng;
 
 /// Each figure is the best of so many repeats.
@@ -40,7 +40,7 @@ pub fn run(seed: u64) -> ExitCode {
     for records in [200_000, 1_000_000] {
         let mut work = vec![0; work_words(records)];
         for (name, shape) in shapes {
-            let words = list_cases::good_list(&mut rng, &STUFF, records, shape);
+            let words = cases::good_list(&mut rng, &STUFF, records, shape);
             let check = best(records, || check(&words, &mut work));
             let read = best(records, || sum(black_box(&words)));
             println!(

@@ -7,12 +7,14 @@ use std::collections::{BTreeMap, HashSet};
 use std::path::Path;
 use std::process::ExitCode;
 
-use crate::build_case::{Case, Numbers, reading};
-use crate::list_cases;
-use crate::list_model;
+use crate::builds::case::{Case, Numbers, reading};
+use crate::lists::cases::damaged;
+use crate::lists::model;
 use crate::oracle::Oracle;
+use crate::parts::record;
+use crate::random_lists;
 use crate::rng::Rng;
-use crate::{random_lists, record, tree_rust};
+use crate::trees::rust_trees;
 
 /// Enough tries to fill every kind that can be filled.
 const TRIES: usize = 60_000;
@@ -71,7 +73,7 @@ impl Sample {
         let list = random_lists::random(rng);
         let mut words = list.records();
         if rng.one_in(4) {
-            words = list_cases::damaged(rng, list.types, &words);
+            words = damaged(rng, list.types, &words);
         }
         let mut numbers = Numbers {
             types: list.types,
@@ -95,13 +97,13 @@ impl Sample {
         if case.list.words.len() > 4 * MOST_RECORDS {
             return;
         }
-        let number = list_model::check(&case.list).number;
+        let number = model::check(&case.list).number;
         let built = self.oracle.build_given(&case.list, case.given);
         if (number == 0) != built.is_ok() {
             return;
         }
         let (mut cells, mut words) =
-            built.map_or_else(|_| Default::default(), |tree| tree_rust::cells_of(&tree));
+            built.map_or_else(|_| Default::default(), |tree| rust_trees::cells_of(&tree));
         let taken = self.kinds.entry(kind(case, number, &cells)).or_default();
         let room = [cells.len(), words.len()].map(|used| used + rng.pick(&[0, 0, 3]));
         let asked = line(case, room);

@@ -1,7 +1,7 @@
 //! Every short list over small alphabets: good and bad ones under numbers around every boundary, and all accepted ones of a few
 //! more records.
 
-use crate::build_case::Numbers;
+use crate::builds::case::Numbers;
 
 const MAX: u32 = u32::MAX;
 
