@@ -1,17 +1,14 @@
 //! The differential driver: library, model and Rust on the same inputs.
 
-mod build_ours;
 mod builds;
+mod calls;
 mod lent;
-mod list_ours;
 mod lists;
 mod oracle;
-mod ours;
 mod parts;
 mod rng;
 mod shim;
 mod tally;
-mod tree_ours;
 mod trees;
 
 // Shared with the comparison of the definitions.

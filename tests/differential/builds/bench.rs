@@ -12,7 +12,7 @@ use crate::oracle::Oracle;
 use crate::rng::Rng;
 use crate::tree::TreeBuild;
 use crate::trees::rust_trees;
-use crate::{TextSize, Tree, build_ours};
+use crate::{TextSize, Tree, calls};
 
 /// The Rust recurses once for each nested record and tree.
 const STACK: usize = 1 << 30;
@@ -142,7 +142,7 @@ fn ratio(ours: f64, rust: Option<f64>) -> String {
 }
 
 fn build(case: &Case, work: &mut [u32], cells: &mut [u32], words: &mut [u16], info: &mut [u32]) {
-    let number = build_ours::build(black_box(case), work, cells, words, info);
+    let number = calls::build(black_box(case), work, cells, words, info);
     assert_eq!(number, 0, "the lists of the benchmark are good ones");
 }
 

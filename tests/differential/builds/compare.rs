@@ -9,7 +9,7 @@ use crate::oracle::{Oracle, Panicked};
 use crate::tally::shortened;
 use crate::trees::model::{self, Handed};
 use crate::trees::rust_trees;
-use crate::{Tree, build_ours, flatten, list_ours, tree_ours};
+use crate::{Tree, calls, flatten};
 
 /// The noise changes once in so many lists.
 const NEW_NOISE_EVERY: u64 = 64;
@@ -82,7 +82,7 @@ impl BuildSession {
     fn verdict(&mut self, list: &List) -> Result<Verdict, String> {
         let (work, _) = self.lent.filled(list.work, Filling::Left);
         let mut info = [UNTOUCHED; 3];
-        let number = list_ours::check(list, work, &mut info);
+        let number = calls::check(list, work, &mut info);
         let [place, count, last] = info;
         let counted = if number == 0 { list.words.len() / 4 } else { 0 };
         if last != 0 || count as usize != counted || (number == 0 && place != 0) {
@@ -175,7 +175,7 @@ impl BuildSession {
         let cells = &mut self.cells[..lent.cells];
         let words = &mut self.words[..lent.words];
         let mut info = [UNTOUCHED; 4];
-        let answer = build_ours::build(case, work, cells, words, &mut info[..lent.held]);
+        let answer = calls::build(case, work, cells, words, &mut info[..lent.held]);
         let mut wanted = [told[0], told[1], told[2], UNTOUCHED];
         wanted[lent.held..].fill(UNTOUCHED);
         if answer != number || info != wanted {
@@ -235,7 +235,7 @@ impl BuildSession {
         let (work, _) = self.lent.filled(need, Filling::Left);
         let mut info = [UNTOUCHED; 3];
         let mut cells = vec![UNTOUCHED; room];
-        let number = tree_ours::materialise(tree, work, &mut cells, &mut info);
+        let number = calls::materialise(tree, work, &mut cells, &mut info);
         if number != 0 || info != [0, room as u32 / 7, 0] {
             return Err(format!("materialise answers {number} {info:x?}"));
         }
@@ -251,7 +251,7 @@ impl BuildSession {
         let (work, _) = self.lent.filled(need, Filling::Left);
         let mut info = [UNTOUCHED; 3];
         let mut found = vec![UNTOUCHED; lines.len()];
-        let number = tree_ours::list(tree, work, &mut found, &mut info);
+        let number = calls::list(tree, work, &mut found, &mut info);
         if number != 0 || info != [0, lines.len() as u32 / 4, 0] {
             return Err(format!("list answers {number} {info:x?}"));
         }

@@ -4,7 +4,7 @@ use std::hint::black_box;
 use std::process::ExitCode;
 use std::time::Instant;
 
-use crate::list_ours;
+use crate::calls;
 use crate::lists::cases::{self, Shape, Stuff};
 use crate::lists::model::{List, work_words};
 use crate::rng::Rng;
@@ -63,7 +63,7 @@ fn check(words: &[u32], work: &mut [u32]) -> u32 {
         work: work.len(),
     };
     let mut info = [0; 3];
-    let number = list_ours::check(&list, work, &mut info);
+    let number = calls::check(&list, work, &mut info);
     assert_eq!(number, 0, "the lists of the benchmark are good ones");
     info[1]
 }

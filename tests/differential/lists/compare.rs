@@ -1,7 +1,7 @@
 //! One list at a time: library against model in everything, library against the Rust where it can be asked.
 
+use crate::calls;
 use crate::lent::{Filling, Lent, UNTOUCHED};
-use crate::list_ours;
 use crate::lists::model::{self, List, Verdict};
 use crate::oracle::{Oracle, Panicked};
 use crate::tally::{Input, Outcome, Tally, shortened};
@@ -94,7 +94,7 @@ impl ListSession {
     ) -> Result<(), String> {
         let (work, guard) = self.lent.filled(list.work, filling);
         let mut info = [UNTOUCHED; 4];
-        let number = list_ours::check(list, work, &mut info[..held]);
+        let number = calls::check(list, work, &mut info[..held]);
         let mut wanted = [expected.place, expected.count, 0, UNTOUCHED];
         wanted[held..].fill(UNTOUCHED);
         if number != expected.number || info != wanted {

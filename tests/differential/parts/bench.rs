@@ -5,8 +5,8 @@ use std::process::ExitCode;
 use std::time::Instant;
 
 use crate::TextSize;
+use crate::calls;
 use crate::oracle::{Oracle, tree};
-use crate::ours;
 use crate::parts::cases::{self, MOST_RECORDS, Nesting};
 use crate::parts::model::{Search, Slice};
 use crate::rng::Rng;
@@ -55,7 +55,7 @@ fn one_part(oracle: &mut Oracle, shape: &str, words: &[u16]) {
     });
     let check = best(words, || {
         let mut info = [0; 3];
-        ours::check(TYPES, black_box(words), &mut info) + info[1]
+        calls::part_check(TYPES, black_box(words), &mut info) + info[1]
     });
     line("check", shape, words, check, new, None);
     let buffer = made(words.to_vec());
@@ -69,7 +69,7 @@ fn one_part(oracle: &mut Oracle, shape: &str, words: &[u16]) {
     let mut out = vec![0; words.len()];
     let slice = best(words, || {
         let mut info = [0; 3];
-        ours::slice(TYPES, black_box(words), &whole, &mut out, &mut info)
+        calls::part_slice(TYPES, black_box(words), &whole, &mut out, &mut info)
     });
     let rust = best(words, || {
         black_box(&buffer).slice(0, words.len(), TextSize::new(0))
@@ -86,7 +86,7 @@ fn one_part(oracle: &mut Oracle, shape: &str, words: &[u16]) {
     };
     let search = best(words, || {
         let mut info = [0; 3];
-        ours::search(TYPES, black_box(words), &nowhere, &mut info)
+        calls::part_search(TYPES, black_box(words), &nowhere, &mut info)
     });
     let rust = best(words, || tree::search_buffer(black_box(&buffer), &nowhere));
     line("search", shape, words, search, rust, Some(new + rust));

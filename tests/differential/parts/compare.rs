@@ -1,8 +1,8 @@
 //! One case at a time: library against model in everything, library against the Rust where the Rust has an answer.
 
+use crate::calls;
 use crate::lent::UNTOUCHED;
 use crate::oracle::{self, Oracle, Panicked, TreeBuffer};
-use crate::ours;
 use crate::parts::case::{Call, Case};
 use crate::parts::model::{self, Answer, Search, Slice};
 use crate::tally::{Outcome, Tally};
@@ -61,7 +61,7 @@ impl Session {
 
     fn check(&mut self, part: &Part) {
         let case = part.case(Call::Check);
-        let call = |info: &mut [u32]| ours::check(part.types, &part.words, info);
+        let call = |info: &mut [u32]| calls::part_check(part.types, &part.words, info);
         if !self.answers(&case, part.verdict, call) {
             return;
         }
@@ -76,7 +76,7 @@ impl Session {
         let mut out = before.clone();
         let made = |info: &mut [u32]| {
             out.copy_from_slice(&before);
-            ours::slice(part.types, &part.words, &call, &mut out, info)
+            calls::part_slice(part.types, &part.words, &call, &mut out, info)
         };
         if !self.answers(&case, expected, made) {
             return;
@@ -101,7 +101,7 @@ impl Session {
     pub fn search(&mut self, part: &Part, call: Search) {
         let case = part.case(Call::Search(call));
         let expected = model::search(part.verdict, &part.words, &call);
-        let made = |info: &mut [u32]| ours::search(part.types, &part.words, &call, info);
+        let made = |info: &mut [u32]| calls::part_search(part.types, &part.words, &call, info);
         if !self.answers(&case, expected, made) {
             return;
         }

@@ -11,7 +11,7 @@ use crate::tree::{NodeType, TreeChild};
 use crate::trees::cases::{self, Mix};
 use crate::trees::model::{Handed, work_words};
 use crate::trees::rust_trees;
-use crate::{Tree, tree_ours};
+use crate::{Tree, calls};
 
 /// Each figure is the best of so many repeats.
 const REPEATS: usize = 7;
@@ -122,12 +122,12 @@ impl Bench {
             shape: name,
             cells: tree.cells.len() / 7,
         };
-        let ours = best(|| tree_ours::balance(black_box(tree), work, out, &mut packed, &mut info));
+        let ours = best(|| calls::balance(black_box(tree), work, out, &mut packed, &mut info));
         let (balanced, _) = cells(&rust.balance());
         assert_eq!(out[..balanced.len()], balanced, "the balanced cells differ");
         let theirs = best(|| cells(&black_box(&rust).balance()));
         row.print("balance", info[1], ours, theirs);
-        let ours = best(|| tree_ours::materialise(black_box(tree), work, out, &mut info));
+        let ours = best(|| calls::materialise(black_box(tree), work, out, &mut info));
         let theirs = best(|| black_box(&rust).materialize());
         let count = info[1];
         row.print("materialise", count, ours, theirs);
@@ -138,7 +138,7 @@ impl Bench {
         };
         let materialised = rust.materialize();
         let expected = lines(&materialised, tree.first_repeat, tree.start);
-        let ours = best(|| tree_ours::list(black_box(&listed), work, out, &mut info));
+        let ours = best(|| calls::list(black_box(&listed), work, out, &mut info));
         assert_eq!(out[..expected.len()], expected, "the lines differ");
         let theirs = best(|| lines(black_box(&materialised), tree.first_repeat, tree.start));
         row.print("list", count, ours, theirs);

@@ -1,10 +1,10 @@
 //! One tree at a time: library against model in everything, library against the Rust where the tree is accepted.
 
+use crate::calls;
 use crate::flatten;
 use crate::lent::{Filling, Lent, UNTOUCHED};
 use crate::oracle::{Oracle, Panicked};
 use crate::tally::{Input, Outcome, Tally, shortened};
-use crate::tree_ours;
 use crate::trees::model::{self, Handed, Verdict};
 use crate::trees::rust_trees;
 
@@ -317,9 +317,9 @@ impl TreeSession {
         let mut info = [UNTOUCHED; 4];
         let held = &mut info[..lent.held];
         let number = match expected.call {
-            Call::Materialise => tree_ours::materialise(tree, work, out, held),
-            Call::List => tree_ours::list(tree, work, out, held),
-            Call::Balance => tree_ours::balance(tree, work, out, packed, held),
+            Call::Materialise => calls::materialise(tree, work, out, held),
+            Call::List => calls::list(tree, work, out, held),
+            Call::Balance => calls::balance(tree, work, out, packed, held),
         };
         let [first, second] = verdict.counts;
         let mut wanted = [verdict.place, first, second, UNTOUCHED];
