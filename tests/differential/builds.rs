@@ -17,12 +17,10 @@ use self::case::{Case, Kept, Numbers, without_one};
 use self::compare::BuildSession;
 use self::tally::{BuildTally, Difference};
 use crate::lists::cases::{Shape, Stuff, any_shape, damaged, good_list};
+use crate::oracle::on_large_stack;
 use crate::random_lists;
 use crate::rng::Rng;
 use crate::tally::Input;
-
-/// The Rust recurses once for each nested record and tree.
-const STACK: usize = 1 << 30;
 
 /// Lists inside some 2,500 records, and lists of thousands of records.
 const DEEP: usize = 4_000;
@@ -42,8 +40,7 @@ pub fn run(seed: u64, cases: u64) -> ExitCode {
     let working: Vec<_> = (0..threads)
         .map(|me| {
             let share = Share::new(seed, cases, me, threads);
-            let thread = thread::Builder::new().stack_size(STACK);
-            thread.spawn(move || share.work()).expect("a thread")
+            on_large_stack(move || share.work())
         })
         .collect();
     for thread in working {

@@ -6,6 +6,7 @@ mod lent;
 mod lists;
 mod oracle;
 mod parts;
+mod rezel;
 mod rng;
 mod shim;
 mod tally;
@@ -24,11 +25,7 @@ mod random_lists;
 mod shapes;
 
 // The names that the Rust sources expect at the root of their crate.
-pub use oracle::parse::Parser;
-pub use oracle::prop::NodeProp;
-pub use oracle::tree::{MountedTree, NodeType, Tree};
-pub use oracle::{parse, prop, tree};
-pub use shim::{TextRange, TextSize};
+pub use rezel::root::*;
 
 use std::path::PathBuf;
 use std::process::ExitCode;
@@ -83,7 +80,7 @@ fn main() -> ExitCode {
             return ExitCode::from(2);
         }
     };
-    oracle::silence_expected_panics();
+    rezel::silence_expected_panics();
     match options.command.as_str() {
         "parts" => parts::run(options.seed, options.cases),
         "bench-parts" => parts::bench::run(options.seed),

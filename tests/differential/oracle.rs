@@ -1,92 +1,19 @@
-//! The Rust original, unchanged, behind plain functions.
-//!
-//! Its sources are taken in from the folder that REZEL_SRC names at compile time; none of them is copied. They stand in
-//! modules of the names that they expect, and what is private in them is reached from a function beside the inclusion.
+//! The Rust original behind plain functions, which answer or say that it panics.
 
-use std::cell::Cell;
 use std::collections::HashMap;
-use std::panic::{AssertUnwindSafe, catch_unwind, set_hook, take_hook};
+use std::process::ExitCode;
 use std::sync::Arc;
+use std::thread::{Builder, JoinHandle};
 
 use crate::TextSize;
 use crate::lists::model::List;
-
-#[allow(dead_code, unused_imports, clippy::all)]
-pub mod prop {
-    include!(concat!(
-        env!("REZEL_SRC"),
-        "/crates/rezel-common/src/prop.rs"
-    ));
-}
-
-#[allow(dead_code, unused_imports, clippy::all)]
-pub mod parse {
-    include!(concat!(
-        env!("REZEL_SRC"),
-        "/crates/rezel-common/src/parse.rs"
-    ));
-}
-
-#[allow(dead_code, unused_imports, clippy::all)]
-pub mod tree {
-    include!(concat!(
-        env!("REZEL_SRC"),
-        "/crates/rezel-common/src/tree.rs"
-    ));
-
-    /// The private search, which calls the private `check_side`.
-    pub fn search_buffer(buffer: &TreeBuffer, call: &crate::parts::model::Search) -> Option<usize> {
-        find_buffer_child(
-            buffer,
-            call.from,
-            call.to,
-            call.direction,
-            TextSize::new(call.position),
-            TextSize::new(call.base),
-            call.side,
-        )
-    }
-}
-
-pub use tree::TreeBuffer;
-use tree::{NodeFlags, NodeSet, NodeType, Tree, TreeBuild};
-
-/// The Rust panicked: its way to refuse.
-#[derive(Clone, Copy, Debug, PartialEq)]
-pub struct Panicked;
-
-thread_local! {
-    /// Whether a panic belongs to the Rust and is caught, so that nothing is printed.
-    static EXPECTED: Cell<bool> = const { Cell::new(false) };
-}
-
-/// Panics inside `guarded` print nothing from here on; all others print as ever.
-pub fn silence_expected_panics() {
-    let before = take_hook();
-    set_hook(Box::new(move |info| {
-        if !EXPECTED.get() {
-            before(info);
-        }
-    }));
-}
-
-/// What the Rust answers, or that it panics.
-pub fn guarded<A>(work: impl FnOnce() -> A) -> Result<A, Panicked> {
-    EXPECTED.set(true);
-    let answer = catch_unwind(AssertUnwindSafe(work));
-    EXPECTED.set(false);
-    answer.map_err(|_| Panicked)
-}
+use crate::parts::model::Search;
+pub use crate::rezel::tree::TreeBuffer;
+use crate::rezel::tree::{self, NodeSet, Tree, TreeBuild};
+use crate::rezel::{self, Panicked, guarded};
 
 /// One more type than a set may have: every larger number of types fails by the same assertion.
 const TOO_MANY_TYPES: u32 = 65_537;
-
-fn node_set(types: u32) -> Result<Arc<NodeSet>, Panicked> {
-    let all: Vec<NodeType> = (0..types)
-        .map(|id| NodeType::new(id as u16, "t", NodeFlags::default()))
-        .collect();
-    guarded(|| Arc::new(NodeSet::new(all)))
-}
 
 /// The node sets made so far, one for each number of types.
 #[derive(Default)]
@@ -99,7 +26,7 @@ impl Oracle {
         let types = types.min(TOO_MANY_TYPES);
         self.sets
             .entry(types)
-            .or_insert_with(|| node_set(types))
+            .or_insert_with(|| guarded(|| rezel::node_set(types)))
             .clone()
     }
 
@@ -151,10 +78,36 @@ pub fn slice(
     })
 }
 
-/// The search: the offset of the match, or none. Some bounds make it run for ever: see `compare.rs`.
-pub fn search(
-    buffer: &TreeBuffer,
-    call: &crate::parts::model::Search,
-) -> Result<Option<usize>, Panicked> {
-    guarded(|| tree::search_buffer(buffer, call))
+/// The search: the offset of the match, or none. Some bounds make it run for ever: see `parts/compare.rs`.
+pub fn search(buffer: &TreeBuffer, call: &Search) -> Result<Option<usize>, Panicked> {
+    guarded(|| search_unguarded(buffer, call))
+}
+
+/// The same without a guard: for timing.
+pub fn search_unguarded(buffer: &TreeBuffer, call: &Search) -> Option<usize> {
+    let Search {
+        from,
+        to,
+        direction,
+        position,
+        base,
+        side,
+    } = *call;
+    tree::search_buffer(buffer, [from, to], direction, position, base, side)
+}
+
+/// The Rust recurses once for each nested record and tree.
+const STACK: usize = 1 << 30;
+
+/// Work that shows deep trees to the Rust, on a thread of its own with a large stack.
+pub fn on_large_stack<A: Send + 'static>(
+    work: impl FnOnce() -> A + Send + 'static,
+) -> JoinHandle<A> {
+    let thread = Builder::new().stack_size(STACK).spawn(work);
+    thread.expect("a thread")
+}
+
+/// A whole run of such work; failed where it panics.
+pub fn run_on_large_stack(work: impl FnOnce() -> ExitCode + Send + 'static) -> ExitCode {
+    on_large_stack(work).join().unwrap_or(ExitCode::FAILURE)
 }

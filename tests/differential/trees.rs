@@ -17,7 +17,7 @@ use self::compare::TreeSession;
 use self::model::Handed;
 use self::rust_trees::cells_of;
 use crate::lists::cases::{Shape, Stuff, any_shape};
-use crate::oracle::Oracle;
+use crate::oracle::{Oracle, run_on_large_stack};
 use crate::rng::Rng;
 use crate::shapes;
 use crate::tree::{NodeSet, TreeBuild};
@@ -26,15 +26,9 @@ use crate::{TextSize, Tree, random_lists};
 /// Damaged copies of each random tree.
 const COPIES: usize = 3;
 
-/// The Rust recurses once for each nested tree, so that deep trees need a large stack.
-const STACK: usize = 1 << 30;
-
 /// Compares so many random trees, beside short and large ones.
 pub fn run(seed: u64, cases: u64) -> ExitCode {
-    let work = std::thread::Builder::new().stack_size(STACK);
-    let thread = work.spawn(move || compare(seed, cases));
-    let joined = thread.expect("a thread").join();
-    joined.unwrap_or(ExitCode::FAILURE)
+    run_on_large_stack(move || compare(seed, cases))
 }
 
 fn compare(seed: u64, cases: u64) -> ExitCode {

@@ -2,20 +2,16 @@
 
 use std::hint::black_box;
 use std::process::ExitCode;
-use std::thread;
 use std::time::Instant;
 
 use crate::builds::bundles::{self, Bundle, FIRST_REPEAT, Place, TYPES};
 use crate::builds::case::{Case, Numbers};
 use crate::lists::model::work_words;
-use crate::oracle::Oracle;
+use crate::oracle::{Oracle, run_on_large_stack};
 use crate::rng::Rng;
 use crate::tree::TreeBuild;
 use crate::trees::rust_trees;
 use crate::{TextSize, Tree, calls};
-
-/// The Rust recurses once for each nested record and tree.
-const STACK: usize = 1 << 30;
 
 /// A figure is the best of so many repeats, or of as many as fit the time.
 const REPEATS: usize = 20;
@@ -31,9 +27,7 @@ here checks the list and writes cells and words. No slice is cleared before a ca
 have been written to before; `new`: they are fresh from the system, so that each page that is touched costs a fault.";
 
 pub fn run(seed: u64) -> ExitCode {
-    let work = thread::Builder::new().stack_size(STACK);
-    let thread = work.spawn(move || measure(seed)).expect("a thread");
-    thread.join().unwrap_or(ExitCode::FAILURE)
+    run_on_large_stack(move || measure(seed))
 }
 
 fn measure(seed: u64) -> ExitCode {

@@ -7,8 +7,8 @@ use std::sync::Arc;
 use crate::antt::{self, Case};
 use crate::flatten::{Flat, flatten, lines, outline};
 use crate::lists::List;
-use crate::rezel;
 use crate::rezel::tree::{NodeSet, Tree, TreeBuild, TreeChild};
+use crate::rezel::{guarded, node_set};
 use crate::trees::Sample;
 use crate::{NodeType, TextSize};
 
@@ -107,7 +107,7 @@ pub struct Rust {
 impl Rust {
     pub fn set(&mut self, types: u32) -> Arc<NodeSet> {
         let set = self.sets.entry(types);
-        Arc::clone(set.or_insert_with(|| rezel::node_set(types)))
+        Arc::clone(set.or_insert_with(|| node_set(types)))
     }
 
     /// The case of an input; none where the Rust panics, which is noted.
@@ -131,7 +131,7 @@ impl Rust {
         build.length = list.given.map(TextSize::new);
         build.max_buffer_length = TextSize::new(list.bound);
         build.min_repeat_type = list.first_repeat as usize;
-        rezel::build(&build)
+        guarded(|| Tree::build(&build)).ok()
     }
 
     /// A run on a list: build, materialise, list.

@@ -6,23 +6,20 @@ mod antt;
 mod flatten;
 mod forests;
 mod lists;
-mod rezel;
 mod shrink;
 mod trees;
 mod verdict;
 
 // Shared with the driver of the calls.
+#[path = "../rezel.rs"]
+mod rezel;
 #[path = "../rng.rs"]
 mod rng;
 #[path = "../shim.rs"]
 mod shim;
 
 // The names that the Rust sources expect at the root of their crate.
-pub use rezel::parse::Parser;
-pub use rezel::prop::NodeProp;
-pub use rezel::tree::{MountedTree, NodeType, Tree};
-pub use rezel::{parse, prop, tree};
-pub use shim::{TextRange, TextSize};
+pub use rezel::root::*;
 
 use std::io;
 use std::path::PathBuf;
@@ -84,6 +81,7 @@ fn main() -> ExitCode {
             return ExitCode::from(2);
         }
     };
+    rezel::silence_expected_panics();
     compare(&options).unwrap_or_else(|error| {
         eprintln!("the generated repository cannot be made or proved: {error}");
         ExitCode::from(2)

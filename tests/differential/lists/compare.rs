@@ -3,7 +3,8 @@
 use crate::calls;
 use crate::lent::{Filling, Lent, UNTOUCHED};
 use crate::lists::model::{self, List, Verdict};
-use crate::oracle::{Oracle, Panicked};
+use crate::oracle::Oracle;
+use crate::rezel::Panicked;
 use crate::tally::{Input, Outcome, Tally, shortened};
 
 /// The noise changes once in so many lists.

@@ -6,7 +6,7 @@ use std::time::Instant;
 
 use crate::TextSize;
 use crate::calls;
-use crate::oracle::{Oracle, tree};
+use crate::oracle::{self, Oracle};
 use crate::parts::cases::{self, MOST_RECORDS, Nesting};
 use crate::parts::model::{Search, Slice};
 use crate::rng::Rng;
@@ -88,7 +88,9 @@ fn one_part(oracle: &mut Oracle, shape: &str, words: &[u16]) {
         let mut info = [0; 3];
         calls::part_search(TYPES, black_box(words), &nowhere, &mut info)
     });
-    let rust = best(words, || tree::search_buffer(black_box(&buffer), &nowhere));
+    let rust = best(words, || {
+        oracle::search_unguarded(black_box(&buffer), &nowhere)
+    });
     line("search", shape, words, search, rust, Some(new + rust));
 }
 

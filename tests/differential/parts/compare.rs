@@ -2,9 +2,10 @@
 
 use crate::calls;
 use crate::lent::UNTOUCHED;
-use crate::oracle::{self, Oracle, Panicked, TreeBuffer};
+use crate::oracle::{self, Oracle, TreeBuffer};
 use crate::parts::case::{Call, Case};
 use crate::parts::model::{self, Answer, Search, Slice};
+use crate::rezel::Panicked;
 use crate::tally::{Outcome, Tally};
 
 /// One call in so many is made again with an answer slice of 0, 1, 2 or 3 words in turn.

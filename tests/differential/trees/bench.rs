@@ -5,7 +5,7 @@ use std::process::ExitCode;
 use std::time::Instant;
 
 use crate::lists::cases::{Shape, Stuff, good_list};
-use crate::oracle::Oracle;
+use crate::oracle::{Oracle, run_on_large_stack};
 use crate::rng::Rng;
 use crate::tree::{NodeType, TreeChild};
 use crate::trees::cases::{self, Mix};
@@ -19,9 +19,6 @@ const REPEATS: usize = 7;
 /// Nodes under the top.
 const NODES: usize = 1_000_000;
 
-/// The Rust recurses once for each nested tree.
-const STACK: usize = 1 << 30;
-
 const TYPES: u32 = 300;
 
 const NOTE: &str = "ns per cell of the result (of list: of the materialised tree), best of several repeats in one process. The Rust's
@@ -32,9 +29,7 @@ cells: its time is that of `Tree::balance` and a walk that writes the cells and 
 The work slice has been written to before, so that no page of it is new.";
 
 pub fn run(seed: u64) -> ExitCode {
-    let work = std::thread::Builder::new().stack_size(STACK);
-    let thread = work.spawn(move || measure(seed)).expect("a thread");
-    thread.join().unwrap_or(ExitCode::FAILURE)
+    run_on_large_stack(move || measure(seed))
 }
 
 fn measure(seed: u64) -> ExitCode {

@@ -3,7 +3,8 @@
 use crate::calls;
 use crate::flatten;
 use crate::lent::{Filling, Lent, UNTOUCHED};
-use crate::oracle::{Oracle, Panicked};
+use crate::oracle::Oracle;
+use crate::rezel::Panicked;
 use crate::tally::{Input, Outcome, Tally, shortened};
 use crate::trees::model::{self, Handed, Verdict};
 use crate::trees::rust_trees;

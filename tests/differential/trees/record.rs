@@ -8,8 +8,9 @@ use std::path::Path;
 use std::process::ExitCode;
 use std::sync::Arc;
 
-use crate::oracle::{Oracle, Panicked, guarded};
+use crate::oracle::Oracle;
 use crate::parts::record;
+use crate::rezel::{Panicked, guarded};
 use crate::rng::Rng;
 use crate::tree::NodeSet;
 use crate::trees::model::{self, Handed};
