@@ -4,7 +4,7 @@ pub mod bench;
 mod bundles;
 pub mod case;
 mod compare;
-pub mod record;
+pub mod sample;
 mod short;
 mod tally;
 

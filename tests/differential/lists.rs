@@ -4,7 +4,7 @@ pub mod bench;
 pub mod cases;
 mod compare;
 pub mod model;
-pub mod record;
+pub mod sample;
 mod short;
 
 use std::process::ExitCode;

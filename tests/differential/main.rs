@@ -4,8 +4,10 @@ mod builds;
 mod calls;
 mod lent;
 mod lists;
+mod options;
 mod oracle;
 mod parts;
+mod recording;
 mod rezel;
 mod rng;
 mod shim;
@@ -27,76 +29,75 @@ mod shapes;
 // The names that the Rust sources expect at the root of their crate.
 pub use rezel::root::*;
 
-use std::path::PathBuf;
+use std::path::{Path, PathBuf};
 use std::process::ExitCode;
+
+use recording::Sample;
+
+/// The crates whose programs are asked what was recorded.
+const ASKED_PARTS: &str = "crates/part_vectors";
+const ASKED_LISTS: &str = "crates/record_vectors";
+const ASKED_TREES: &str = "crates/tree_vectors";
+const ASKED_BUILDS: &str = "crates/build_vectors";
 
 struct Options {
     command: String,
     seed: u64,
     /// Random cases are made until this many cases have been compared in all; of trees so many are made.
-    cases: u64,
-    /// The crate whose files the recorded answers become.
-    into: PathBuf,
+    cases: Option<u64>,
+    /// The folder that recorded answers are written into.
+    into: Option<PathBuf>,
 }
 
 fn options() -> Result<Options, String> {
-    let mut words = std::env::args().skip(1);
-    let command = words.next().ok_or("a command is missing")?;
-    let into = match command.as_str() {
-        "record-lists" => "crates/record_vectors",
-        "record-trees" => "crates/tree_vectors",
-        "record-builds" => "crates/build_vectors",
-        _ => "crates/part_vectors",
-    };
-    let cases = match command.as_str() {
-        "trees" => 300_000,
-        "builds" => 12_000_000,
-        _ => 6_000_000,
-    };
-    let mut options = Options {
-        command,
+    let mut words = options::words();
+    let mut all = Options {
+        command: words.next().ok_or("a command is missing")?,
         seed: 1,
-        cases,
-        into: PathBuf::from(into),
+        cases: None,
+        into: None,
     };
-    while let Some(word) = words.next() {
-        let value = words.next().ok_or(format!("{word} wants a value"))?;
-        let number = || value.parse().map_err(|_| format!("{word} wants a number"));
-        match word.as_str() {
-            "--seed" => options.seed = number()?,
-            "--cases" => options.cases = number()?,
-            "--into" => options.into = PathBuf::from(value),
-            _ => return Err(format!("unknown option {word}")),
+    options::read(words, |given| {
+        match given.name.as_str() {
+            "--seed" => all.seed = given.number()?,
+            "--cases" => all.cases = Some(given.number()?),
+            "--into" => all.into = Some(given.path()),
+            _ => return given.unknown(),
         }
-    }
-    Ok(options)
+        Ok(())
+    })?;
+    Ok(all)
 }
 
 fn main() -> ExitCode {
-    let options = match options() {
-        Ok(options) => options,
-        Err(text) => {
-            eprintln!("{text}");
-            return ExitCode::from(2);
-        }
-    };
     rezel::silence_expected_panics();
-    match options.command.as_str() {
-        "parts" => parts::run(options.seed, options.cases),
-        "bench-parts" => parts::bench::run(options.seed),
-        "record-parts" => parts::record::run(options.seed, &options.into),
-        "lists" => lists::run(options.seed, options.cases),
-        "trees" => trees::run(options.seed, options.cases),
-        "bench-trees" => trees::bench::run(options.seed),
-        "builds" => builds::run(options.seed, options.cases),
-        "bench-builds" => builds::bench::run(options.seed),
-        "record-builds" => builds::record::run(options.seed, &options.into),
-        "bench-lists" => lists::bench::run(options.seed),
-        "record-lists" => lists::record::run(options.seed, &options.into),
-        "record-trees" => trees::record::run(options.seed, &options.into),
-        other => {
-            eprintln!("unknown command {other}");
-            ExitCode::from(2)
-        }
+    match options() {
+        Ok(options) => run(&options),
+        Err(text) => options::refused(&text),
     }
+}
+
+fn run(options: &Options) -> ExitCode {
+    let seed = options.seed;
+    let cases = |unless: u64| options.cases.unwrap_or(unless);
+    match options.command.as_str() {
+        "parts" => parts::run(seed, cases(6_000_000)),
+        "lists" => lists::run(seed, cases(6_000_000)),
+        "trees" => trees::run(seed, cases(300_000)),
+        "builds" => builds::run(seed, cases(12_000_000)),
+        "bench-parts" => parts::bench::run(seed),
+        "bench-lists" => lists::bench::run(seed),
+        "bench-trees" => trees::bench::run(seed),
+        "bench-builds" => builds::bench::run(seed),
+        "record-parts" => record::<parts::sample::Sample>(options, ASKED_PARTS),
+        "record-lists" => record::<lists::sample::Sample>(options, ASKED_LISTS),
+        "record-trees" => record::<trees::sample::Sample>(options, ASKED_TREES),
+        "record-builds" => record::<builds::sample::Sample>(options, ASKED_BUILDS),
+        other => options::refused(&format!("unknown command {other}")),
+    }
+}
+
+fn record<S: Sample>(options: &Options, asked: &str) -> ExitCode {
+    let into = options.into.as_deref().unwrap_or(Path::new(asked));
+    recording::run::<S>(options.seed, into)
 }

@@ -5,7 +5,7 @@ mod case;
 mod cases;
 mod compare;
 pub mod model;
-pub mod record;
+pub mod sample;
 mod short;
 
 use std::process::ExitCode;

@@ -4,8 +4,8 @@ pub mod bench;
 mod cases;
 mod compare;
 pub mod model;
-pub mod record;
 pub mod rust_trees;
+pub mod sample;
 mod short;
 
 use std::process::ExitCode;

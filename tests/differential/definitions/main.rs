@@ -11,6 +11,8 @@ mod trees;
 mod verdict;
 
 // Shared with the driver of the calls.
+#[path = "../options.rs"]
+mod options;
 #[path = "../rezel.rs"]
 mod rezel;
 #[path = "../rng.rs"]
@@ -46,8 +48,7 @@ struct Options {
 }
 
 fn options() -> Result<Options, String> {
-    let mut words = std::env::args().skip(1);
-    let mut options = Options {
+    let mut all = Options {
         seed: 1,
         lists: 1_000,
         deep: 50,
@@ -56,36 +57,31 @@ fn options() -> Result<Options, String> {
         folder: PathBuf::from("target/differential/definitions"),
         repository: PathBuf::from("."),
     };
-    while let Some(word) = words.next() {
-        let value = words.next().ok_or(format!("{word} wants a value"))?;
-        let number = || value.parse().map_err(|_| format!("{word} wants a number"));
-        match word.as_str() {
-            "--seed" => options.seed = number()? as u64,
-            "--lists" => options.lists = number()?,
-            "--deep" => options.deep = number()?,
-            "--wide" => options.wide = number()?,
-            "--trees" => options.trees = number()?,
-            "--folder" => options.folder = PathBuf::from(value),
-            "--repository" => options.repository = PathBuf::from(value),
-            _ => return Err(format!("unknown option {word}")),
+    options::read(options::words(), |given| {
+        match given.name.as_str() {
+            "--seed" => all.seed = given.number()?,
+            "--lists" => all.lists = given.number()?,
+            "--deep" => all.deep = given.number()?,
+            "--wide" => all.wide = given.number()?,
+            "--trees" => all.trees = given.number()?,
+            "--folder" => all.folder = given.path(),
+            "--repository" => all.repository = given.path(),
+            _ => return given.unknown(),
         }
-    }
-    Ok(options)
+        Ok(())
+    })?;
+    Ok(all)
 }
 
 fn main() -> ExitCode {
-    let options = match options() {
-        Ok(options) => options,
-        Err(text) => {
-            eprintln!("{text}");
-            return ExitCode::from(2);
-        }
-    };
     rezel::silence_expected_panics();
-    compare(&options).unwrap_or_else(|error| {
-        eprintln!("the generated repository cannot be made or proved: {error}");
-        ExitCode::from(2)
-    })
+    match options() {
+        Ok(options) => compare(&options).unwrap_or_else(|error| {
+            let text = format!("the generated repository cannot be made or proved: {error}");
+            options::refused(&text)
+        }),
+        Err(text) => options::refused(&text),
+    }
 }
 
 fn compare(options: &Options) -> io::Result<ExitCode> {

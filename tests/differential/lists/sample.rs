@@ -1,45 +1,20 @@
-//! Writes a sample of short lists with the Rust's answers, for a program of the library that is run on them.
+//! A sample of short lists with the Rust's answers.
 //!
 //! Only lists on which document 01 and the Rust agree are taken: accepted and built, or refused and not built. The
 //! answers are the Rust's; the model only says which kind of list it is.
 
-use std::collections::{BTreeMap, HashSet};
-use std::path::Path;
-use std::process::ExitCode;
-
 use crate::lists::cases::{self, Stuff};
 use crate::lists::model::{self, List, work_words};
 use crate::oracle::Oracle;
-use crate::parts::record;
+use crate::recording::{self, Taken};
 use crate::rng::Rng;
-
-/// Enough tries to fill every kind that can be filled.
-const TRIES: usize = 60_000;
 
 const MOST_RECORDS: usize = 12;
 
 #[derive(Default)]
-struct Sample {
+pub struct Sample {
     oracle: Oracle,
-    /// How many lists of each kind have been taken.
-    kinds: BTreeMap<String, usize>,
-    lines: HashSet<String>,
-    asked: String,
-    answered: String,
-}
-
-pub fn run(seed: u64, into: &Path) -> ExitCode {
-    let mut sample = Sample::default();
-    sample.examples();
-    let mut rng = Rng::new(seed);
-    for _ in 0..TRIES {
-        sample.draw(&mut rng);
-    }
-    for (kind, count) in &sample.kinds {
-        println!("{count:5} {kind}");
-    }
-    println!("seed {seed}: {} lists", sample.lines.len());
-    record::write(into, &sample.asked, &sample.answered)
+    taken: Taken,
 }
 
 /// How many lists of a kind are taken. Each number of records is a kind of its own where a list is accepted.
@@ -47,14 +22,16 @@ fn quota(number: u32, records: usize) -> usize {
     match (number, records) {
         (0, 0) => 10,
         (0, _) => 32,
-        (1 | 2 | 3, _) => 16,
+        (1..=3, _) => 16,
         _ => 60,
     }
 }
 
-impl Sample {
+impl recording::Sample for Sample {
+    const LINES: &str = "lists";
+
     /// Document 01's own lists, as far as they are short.
-    fn examples(&mut self) {
+    fn examples(&mut self, _: &mut Rng) {
         let plain = [1, 0, 2, 4, 2, 3, 5, 4, 3, 0, 6, 12];
         for bound in [1_024, 5, 1] {
             self.take(&example(4, 4, bound, 0, &plain));
@@ -100,7 +77,13 @@ impl Sample {
         self.take(&list);
     }
 
-    /// Takes a list on which both agree, unless its kind is full or it has been taken before.
+    fn taken(&self) -> &Taken {
+        &self.taken
+    }
+}
+
+impl Sample {
+    /// Takes a list on which both agree.
     fn take(&mut self, list: &List) {
         let records = list.words.len() / 4;
         let number = model::check(&List {
@@ -116,15 +99,9 @@ impl Sample {
             0 => format!("taken, {records} records"),
             _ => format!("refused with {number}"),
         };
-        let count = self.kinds.entry(kind).or_default();
-        let asked = line(list);
-        if *count >= quota(number, records) || !self.lines.insert(asked.clone()) {
-            return;
-        }
-        *count += 1;
-        self.asked.push_str(&asked);
-        self.answered
-            .push_str(if built { "taken\n" } else { "refused\n" });
+        let answer = if built { "taken" } else { "refused" };
+        let most = quota(number, records);
+        self.taken.take(kind, most, line(list), || answer.into());
     }
 }
 
@@ -142,12 +119,12 @@ fn example(types: u32, first_repeat: u32, bound: u32, start: u32, words: &[u32])
 
 fn line(list: &List) -> String {
     format!(
-        "{} {} {} {} {}{}\n",
+        "{} {} {} {} {}{}",
         list.types,
         list.first_repeat,
         list.bound,
         list.start,
         list.top,
-        record::counted(list.words)
+        recording::counted(list.words)
     )
 }

@@ -1,69 +1,22 @@
-//! Writes a sample of short cases with the Rust's answers, for a program of the library that is run on them.
+//! A sample of short cases with the Rust's answers.
 //!
 //! Only cases on which document 01 and the Rust agree about accepted or refused are taken, and none on which the Rust
 //! may run for ever. The answers are the Rust's; the model only says which kind of case it is.
-
-use std::collections::{BTreeMap, HashSet};
-use std::fmt::{Display, Write};
-use std::path::Path;
-use std::process::ExitCode;
 
 use crate::oracle::Oracle;
 use crate::parts::cases;
 use crate::parts::compare::{Part, search_rust, slice_rust};
 use crate::parts::model::{self, Search, Slice};
+use crate::recording::{self, Taken, counted};
 use crate::rng::Rng;
-
-/// What every output slice holds before a call.
-const BEFORE: u16 = 7;
-
-/// Enough tries to fill every kind that can be filled.
-const TRIES: usize = 60_000;
 
 /// Bounds above this are left out, so that a reader of the lines needs no more than 32 bits.
 const FARTHEST: usize = u32::MAX as usize;
 
-struct Sample {
+#[derive(Default)]
+pub struct Sample {
     oracle: Oracle,
-    /// How many cases of each kind have been taken.
-    kinds: BTreeMap<String, usize>,
-    lines: HashSet<String>,
-    asked: String,
-    answered: String,
-}
-
-pub fn run(seed: u64, into: &Path) -> ExitCode {
-    let mut sample = Sample {
-        oracle: Oracle::default(),
-        kinds: BTreeMap::new(),
-        lines: HashSet::new(),
-        asked: String::new(),
-        answered: String::new(),
-    };
-    sample.examples();
-    let mut rng = Rng::new(seed);
-    for _ in 0..TRIES {
-        sample.draw(&mut rng);
-    }
-    for (kind, count) in &sample.kinds {
-        println!("{count:5} {kind}");
-    }
-    println!("seed {seed}: {} cases", sample.lines.len());
-    write(into, &sample.asked, &sample.answered)
-}
-
-/// Writes what a program is asked and what it must answer.
-pub fn write(into: &Path, asked: &str, answered: &str) -> ExitCode {
-    let written = std::fs::create_dir_all(into)
-        .and_then(|()| std::fs::write(into.join("stdin"), asked))
-        .and_then(|()| std::fs::write(into.join("stdout"), answered));
-    match written {
-        Ok(()) => ExitCode::SUCCESS,
-        Err(error) => {
-            eprintln!("{}: {error}", into.display());
-            ExitCode::FAILURE
-        }
-    }
+    taken: Taken,
 }
 
 /// How many cases of a kind are taken: many where a call is accepted, fewer for each refusal.
@@ -79,9 +32,11 @@ fn quota(call: &str, number: u32) -> usize {
     }
 }
 
-impl Sample {
+impl recording::Sample for Sample {
+    const LINES: &str = "cases";
+
     /// Document 01's own part and slices of it.
-    fn examples(&mut self) {
+    fn examples(&mut self, _: &mut Rng) {
         let words = vec![3, 0, 6, 12, 1, 0, 2, 8, 2, 3, 5, 12];
         let part = Part::new(&mut self.oracle, 4, words);
         self.check(&part);
@@ -116,6 +71,12 @@ impl Sample {
         self.search(&part, &cases::search_call(rng, &part.words));
     }
 
+    fn taken(&self) -> &Taken {
+        &self.taken
+    }
+}
+
+impl Sample {
     fn check(&mut self, part: &Part) {
         let number = part.verdict.number;
         let answer = match part.rust() {
@@ -130,19 +91,16 @@ impl Sample {
     }
 
     fn slice(&mut self, part: &Part, call: &Slice) {
-        let before = vec![BEFORE; call.room];
-        let (expected, _) = model::slice(part.verdict, &part.words, call, &before);
+        let (expected, _) = model::slice(part.verdict, &part.words, call, &vec![0; call.room]);
         let rust = slice_rust(part, call);
         if (expected.number == 0) != rust.is_ok() || call.from.max(call.to) > FARTHEST {
             return;
         }
-        let mut out = before;
-        let mut answer = String::from("refused");
-        if let Ok((words, length)) = rust {
-            out[..words.len()].copy_from_slice(&words);
-            answer = format!("words {} length {length}", words.len());
-        }
-        let answer = format!("{answer} :{}", spaced(&out));
+        let (told, words) = match rust {
+            Ok((words, length)) => (format!("words {} length {length}", words.len()), words),
+            Err(_) => (String::from("refused"), Vec::new()),
+        };
+        let answer = format!("{told} :{}", recording::output(words, call.room));
         let asked = format!(
             "2 {} {} {} {} {}{}",
             part.types,
@@ -197,33 +155,8 @@ impl Sample {
         self.take("search", expected.number, &kind, asked, answer);
     }
 
-    /// Takes a case unless its kind is full or it has been taken before.
     fn take(&mut self, call: &str, number: u32, kind: &str, asked: String, answer: String) {
-        let taken = self
-            .kinds
-            .entry(format!("{call} {number}{kind}"))
-            .or_default();
-        if *taken >= quota(call, number) || !self.lines.insert(asked.clone()) {
-            return;
-        }
-        *taken += 1;
-        self.asked.push_str(&asked);
-        self.asked.push('\n');
-        self.answered.push_str(&answer);
-        self.answered.push('\n');
+        let kind = format!("{call} {number}{kind}");
+        self.taken.take(kind, quota(call, number), asked, || answer);
     }
-}
-
-/// Words with a space before each.
-pub fn spaced<A: Display>(words: &[A]) -> String {
-    let mut text = String::new();
-    for word in words {
-        write!(text, " {word}").expect("writing to a string");
-    }
-    text
-}
-
-/// The number of words, then the words, with a space before each.
-pub fn counted<A: Display>(words: &[A]) -> String {
-    format!(" {}{}", words.len(), spaced(words))
 }

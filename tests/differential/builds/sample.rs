@@ -1,55 +1,29 @@
-//! Writes a sample of small lists with the Rust's trees, for a program of the library that is run on them.
+//! A sample of small lists with the Rust's trees.
 //!
 //! Only lists on which document 01 and the Rust agree are taken: accepted and built, or refused where the Rust panics. The
 //! answers are the Rust's; the model only says whether a list is refused.
-
-use std::collections::{BTreeMap, HashSet};
-use std::path::Path;
-use std::process::ExitCode;
 
 use crate::builds::case::{Case, Numbers, reading};
 use crate::lists::cases::damaged;
 use crate::lists::model;
 use crate::oracle::Oracle;
-use crate::parts::record;
 use crate::random_lists;
+use crate::recording::{self, Taken};
 use crate::rng::Rng;
 use crate::trees::rust_trees;
-
-/// Enough tries to fill every kind that can be filled.
-const TRIES: usize = 60_000;
 
 /// The longest lists that are taken.
 const MOST_RECORDS: usize = 60;
 
-/// What stands in the output slices before a call.
-const BEFORE: u16 = 7;
-
 #[derive(Default)]
-struct Sample {
+pub struct Sample {
     oracle: Oracle,
-    /// How many lists of each kind have been taken.
-    kinds: BTreeMap<String, usize>,
-    lines: HashSet<String>,
-    asked: String,
-    answered: String,
+    taken: Taken,
 }
 
-pub fn run(seed: u64, into: &Path) -> ExitCode {
-    let mut sample = Sample::default();
-    let mut rng = Rng::new(seed);
-    sample.examples(&mut rng);
-    for _ in 0..TRIES {
-        sample.draw(&mut rng);
-    }
-    for (kind, count) in &sample.kinds {
-        println!("{count:5} {kind}");
-    }
-    println!("seed {seed}: {} lists", sample.lines.len());
-    record::write(into, &sample.asked, &sample.answered)
-}
+impl recording::Sample for Sample {
+    const LINES: &str = "lists";
 
-impl Sample {
     /// Document 01's examples.
     fn examples(&mut self, rng: &mut Rng) {
         let list = [1, 0, 2, 4, 2, 3, 5, 4, 3, 0, 6, 12];
@@ -92,7 +66,13 @@ impl Sample {
         self.take(rng, &numbers.with(&words));
     }
 
-    /// Takes a list with the Rust's answer unless it is too long, its kind is full or it has been taken before.
+    fn taken(&self) -> &Taken {
+        &self.taken
+    }
+}
+
+impl Sample {
+    /// Takes a list with the Rust's answer unless it is too long.
     fn take(&mut self, rng: &mut Rng, case: &Case) {
         if case.list.words.len() > 4 * MOST_RECORDS {
             return;
@@ -102,25 +82,19 @@ impl Sample {
         if (number == 0) != built.is_ok() {
             return;
         }
-        let (mut cells, mut words) =
+        let (cells, words) =
             built.map_or_else(|_| Default::default(), |tree| rust_trees::cells_of(&tree));
-        let taken = self.kinds.entry(kind(case, number, &cells)).or_default();
         let room = [cells.len(), words.len()].map(|used| used + rng.pick(&[0, 0, 3]));
-        let asked = line(case, room);
-        if *taken >= quota(number) || !self.lines.insert(asked.clone()) {
-            return;
-        }
-        *taken += 1;
-        let told = match number {
-            0 => format!("cells {} words {}", cells.len() / 7, words.len()),
-            _ => String::from("refused"),
-        };
-        cells.resize(room[0], BEFORE.into());
-        words.resize(room[1], BEFORE);
-        let (cells, words) = (record::spaced(&cells), record::spaced(&words));
-        self.asked.push_str(&asked);
-        self.answered
-            .push_str(&format!("{told} :{cells} :{words}\n"));
+        let kind = kind(case, number, &cells);
+        self.taken.take(kind, quota(number), line(case, room), || {
+            let told = match number {
+                0 => format!("cells {} words {}", cells.len() / 7, words.len()),
+                _ => String::from("refused"),
+            };
+            let cells = recording::output(cells, room[0]);
+            let words = recording::output(words, room[1]);
+            format!("{told} :{cells} :{words}")
+        });
     }
 }
 
@@ -147,7 +121,7 @@ fn kind(case: &Case, number: u32, cells: &[u32]) -> String {
 fn line(case: &Case, room: [usize; 2]) -> String {
     let list = &case.list;
     format!(
-        "{} {} {} {} {} {} {} {} {}{}\n",
+        "{} {} {} {} {} {} {} {} {}{}",
         list.types,
         list.first_repeat,
         list.bound,
@@ -157,6 +131,6 @@ fn line(case: &Case, room: [usize; 2]) -> String {
         case.given.unwrap_or(0),
         room[0],
         room[1],
-        record::spaced(list.words)
+        recording::spaced(list.words)
     )
 }

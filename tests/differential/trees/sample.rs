@@ -1,15 +1,12 @@
-//! Writes a sample of small trees with the Rust's answers, for a program of the library that is run on them.
+//! A sample of small trees with the Rust's answers.
 //!
 //! Only calls on which document 01 and the Rust agree are taken: accepted and answered, or refused where the Rust panics on the
 //! packed words or the number of types. The answers are the Rust's; the model only says which kind of call it is.
 
-use std::collections::{BTreeMap, HashSet};
-use std::path::Path;
-use std::process::ExitCode;
 use std::sync::Arc;
 
 use crate::oracle::Oracle;
-use crate::parts::record;
+use crate::recording::{self, Taken};
 use crate::rezel::{Panicked, guarded};
 use crate::rng::Rng;
 use crate::tree::NodeSet;
@@ -17,39 +14,26 @@ use crate::trees::model::{self, Handed};
 use crate::trees::{cases, rust_trees};
 use crate::{Tree, flatten, trees};
 
-/// Enough tries to fill every kind that can be filled.
-const TRIES: usize = 40_000;
-
 /// The largest trees that are taken: words of cells, before and after, and packed words.
 const MOST_CELLS: usize = 210;
 const MOST_WORDS: usize = 120;
 
-/// What stands in the output slice before a call.
-const BEFORE: u32 = 7;
-
-#[derive(Default)]
-struct Sample {
+pub struct Sample {
     oracle: Oracle,
-    /// How many calls of each kind have been taken.
-    kinds: BTreeMap<String, usize>,
-    lines: HashSet<String>,
-    asked: String,
-    answered: String,
+    sets: Vec<Arc<NodeSet>>,
+    taken: Taken,
 }
 
-pub fn run(seed: u64, into: &Path) -> ExitCode {
-    let mut sample = Sample::default();
-    let sets = trees::small_sets(&mut sample.oracle);
-    let mut rng = Rng::new(seed);
-    sample.examples(&mut rng);
-    for _ in 0..TRIES {
-        sample.draw(&mut rng, &sets);
+impl Default for Sample {
+    fn default() -> Self {
+        let mut oracle = Oracle::default();
+        let sets = trees::small_sets(&mut oracle);
+        Self {
+            oracle,
+            sets,
+            taken: Taken::default(),
+        }
     }
-    for (kind, count) in &sample.kinds {
-        println!("{count:5} {kind}");
-    }
-    println!("seed {seed}: {} calls", sample.lines.len());
-    record::write(into, &sample.asked, &sample.answered)
 }
 
 /// The call of a line, by its first number.
@@ -89,7 +73,10 @@ impl Answer {
     }
 }
 
-impl Sample {
+impl recording::Sample for Sample {
+    const LINES: &str = "calls";
+    const DRAWS: usize = 40_000;
+
     /// Document 01's list P, built with each of its three bounds.
     fn examples(&mut self, rng: &mut Rng) {
         let one = [1, 0, 0, 6, 2, 1, 0, 2, 0, 0, 6, 0, 12, 0];
@@ -117,8 +104,8 @@ impl Sample {
     }
 
     /// A random tree, now and then with a packed word changed or too many types.
-    fn draw(&mut self, rng: &mut Rng, sets: &[Arc<NodeSet>]) {
-        let mut tree = trees::any_tree(&mut self.oracle, rng, sets);
+    fn draw(&mut self, rng: &mut Rng) {
+        let mut tree = trees::any_tree(&mut self.oracle, rng, &self.sets);
         if rng.one_in(3) && !tree.words.is_empty() {
             tree = cases::with_packed_word_changed(rng, &tree);
         }
@@ -128,6 +115,12 @@ impl Sample {
         self.calls(rng, &tree);
     }
 
+    fn taken(&self) -> &Taken {
+        &self.taken
+    }
+}
+
+impl Sample {
     /// Materialise and balance, and list on the Rust's materialised tree.
     fn calls(&mut self, rng: &mut Rng, tree: &Handed) {
         if tree.cells.len() > MOST_CELLS || tree.words.len() > MOST_WORDS {
@@ -187,34 +180,29 @@ impl Sample {
         }
     }
 
-    /// Takes a call with the Rust's answer unless it is too large, its kind is full or it has been taken before.
+    /// Takes a call with the Rust's answer unless it is too large.
     fn take(&mut self, rng: &mut Rng, call: Call, tree: &Handed, number: u32, answer: Answer) {
         if tree.cells.len().max(answer.written.len()) > MOST_CELLS {
             return;
         }
         let room = answer.written.len() + rng.pick(&[0, 0, 3]);
         let changed = matches!(call, Call::Balance) && number == 0 && answer.written != tree.cells;
-        let taken = self.kinds.entry(kind(call, tree, number, changed));
-        let taken = taken.or_default();
+        let kind = kind(call, tree, number, changed);
         let asked = line(call, tree, room);
-        if *taken >= quota(call, number) || !self.lines.insert(asked.clone()) {
-            return;
-        }
-        *taken += 1;
-        self.asked.push_str(&asked);
-        let told = match number {
-            0 => answer.counted(call),
-            _ => String::from("refused"),
-        };
-        let (mut out, mut words) = (answer.written, answer.words);
-        out.resize(room, BEFORE);
-        words.resize(tree.words.len(), BEFORE as u16);
-        let out = record::spaced(&out);
-        let words = match call {
-            Call::Balance => format!(" :{}", record::spaced(&words)),
-            _ => String::new(),
-        };
-        self.answered.push_str(&format!("{told} :{out}{words}\n"));
+        self.taken.take(kind, quota(call, number), asked, || {
+            let told = match number {
+                0 => answer.counted(call),
+                _ => String::from("refused"),
+            };
+            let out = recording::output(answer.written, room);
+            let words = match call {
+                Call::Balance => {
+                    format!(" :{}", recording::output(answer.words, tree.words.len()))
+                }
+                _ => String::new(),
+            };
+            format!("{told} :{out}{words}")
+        });
     }
 }
 
@@ -246,14 +234,14 @@ fn kind(call: Call, tree: &Handed, number: u32, changed: bool) -> String {
 
 fn line(call: Call, tree: &Handed, room: usize) -> String {
     format!(
-        "{} {} {} {} {room} {} {}{}{}\n",
+        "{} {} {} {} {room} {} {}{}{}",
         call as u32,
         tree.types,
         tree.first_repeat,
         tree.start,
         tree.cells.len(),
         tree.words.len(),
-        record::spaced(&tree.cells),
-        record::spaced(&tree.words)
+        recording::spaced(&tree.cells),
+        recording::spaced(&tree.words)
     )
 }
