@@ -109,12 +109,10 @@ impl Share {
 
     fn work(mut self) -> BuildTally {
         self.timed("short, all of them", |share| {
-            short::spelt(&mut |numbers, words| share.list("short, all of them", numbers, words));
+            short::spelt(&mut |case| share.list("short, all of them", case));
         });
         self.timed("short and accepted, all", |share| {
-            short::accepted(&mut |numbers, words| {
-                share.list("short and accepted, all", numbers, words);
-            });
+            short::accepted(&mut |case| share.list("short and accepted, all", case));
         });
         self.timed("empty siblings", Self::empties);
         self.timed("full parts", Self::full_parts);
@@ -154,9 +152,9 @@ impl Share {
         Rng::new(mixed)
     }
 
-    fn list(&mut self, kind: &'static str, numbers: &Numbers, words: &[u32]) {
+    fn list(&mut self, kind: &'static str, case: &Case) {
         if self.mine() {
-            self.session.check(kind, &numbers.with(words));
+            self.session.check(kind, case);
         }
     }
 
@@ -221,7 +219,7 @@ impl Share {
                             words.extend([0, 0, length, 4 * level + 4]);
                         }
                         let numbers = Numbers::plain(TYPES, FIRST_REPEAT, bound);
-                        self.list("chains around the cut", &numbers, &words);
+                        self.list("chains around the cut", &numbers.with(&words));
                     }
                 }
             }

@@ -11,6 +11,7 @@ mod recording;
 mod rezel;
 mod rng;
 mod shim;
+mod spelling;
 mod tally;
 mod trees;
 

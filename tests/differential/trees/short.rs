@@ -1,5 +1,6 @@
 //! Every short slice of cells over small alphabets, good and bad.
 
+use crate::spelling;
 use crate::trees::compare::TreeSession;
 use crate::trees::model::Handed;
 
@@ -57,13 +58,16 @@ pub fn run(session: &mut TreeSession) {
             check(session, types, &vec![1; length], &[]);
         }
         for words in [&[][..], &[0], &[0, 0, 0, 4], &[0, 0, 1, 4]] {
-            spell(&[&ONE], |cells| check(session, types, cells, words));
+            spelling::words(&ONE, |cells| check(session, types, cells, words));
         }
     }
     for words in [&[][..], &[0, 0, 1, 4]] {
-        spell(&[&TOP, &BEHIND], |cells| check(session, 2, cells, words));
+        let both = [TOP, BEHIND].concat();
+        spelling::words(&both, |cells| check(session, 2, cells, words));
     }
-    spell(&[&LINKED; 3], |cells| check(session, 1, cells, &[]));
+    spelling::words(&[LINKED; 3].concat(), |cells| {
+        check(session, 1, cells, &[]);
+    });
     ranges(session);
 }
 
@@ -77,34 +81,16 @@ fn check(session: &mut TreeSession, types: u32, cells: &[u32], words: &[u16]) {
     });
 }
 
-/// Every slice that alphabets spell, one cell for each.
-fn spell(alphabets: &[&Alphabet], mut visit: impl FnMut(&[u32])) {
-    let letters = || alphabets.iter().flat_map(|alphabet| alphabet.iter());
-    let all: usize = letters().map(|letters| letters.len()).product();
-    let mut cells = Vec::new();
-    for mut code in 0..all {
-        cells.clear();
-        for letters in letters() {
-            cells.push(letters[code % letters.len()]);
-            code /= letters.len();
-        }
-        visit(&cells);
-    }
-}
-
 /// Four cells with good links: the top over two siblings, the first of them with a child. All kinds, starts and ranges.
 fn ranges(session: &mut TreeSession) {
     let [lengths, positions, starts] = RANGED;
     let letters = [
         lengths, positions, lengths, positions, lengths, positions, lengths, starts,
     ];
-    let all: usize = letters.iter().map(|letters| letters.len()).product();
-    for mut code in 0..all {
-        let [top, a, al, b, bl, c, cl, start] = letters.map(|letters| {
-            let letter = letters[code % letters.len()];
-            code /= letters.len();
-            letter
-        });
+    spelling::words(&letters, |word| {
+        let &[top, a, al, b, bl, c, cl, start] = word else {
+            unreachable!("a word has a letter for each alphabet");
+        };
         let cells = [
             [1, 0, 0, top, 2, 2, 0],
             [1, 0, a, al, 3, 1, 4],
@@ -118,5 +104,5 @@ fn ranges(session: &mut TreeSession) {
             cells: cells.concat(),
             words: Vec::new(),
         });
-    }
+    });
 }
