@@ -10,7 +10,6 @@ mod tally;
 
 use std::process::ExitCode;
 use std::thread;
-use std::time::Instant;
 
 use self::bundles::{Around, Bundle, FIRST_REPEAT, PLACES, Place, TYPES};
 use self::case::{Case, Kept, Numbers, without_one};
@@ -19,8 +18,8 @@ use self::tally::{BuildTally, Difference};
 use crate::lists::cases::{Shape, Stuff, any_shape, damaged, good_list};
 use crate::oracle::on_large_stack;
 use crate::random_lists;
+use crate::report::{Input, Run};
 use crate::rng::Rng;
-use crate::tally::Input;
 
 /// Lists inside some 2,500 records, and lists of thousands of records.
 const DEEP: usize = 4_000;
@@ -95,6 +94,14 @@ struct Share {
     session: BuildSession,
 }
 
+impl Run for Share {
+    const CASES: &str = "lists";
+
+    fn compared(&self) -> u64 {
+        self.session.tally.lists()
+    }
+}
+
 impl Share {
     fn new(seed: u64, cases: u64, me: usize, of: usize) -> Self {
         Self {
@@ -122,7 +129,7 @@ impl Share {
         self.timed("thousands of records", Self::thousands);
         self.timed("random and damaged", |share| {
             let mut rng = share.random();
-            while share.session.tally.lists() < share.cases {
+            while share.compared() < share.cases {
                 random(&mut share.session, &mut rng);
                 written(&mut share.session, &mut rng);
             }
@@ -130,12 +137,8 @@ impl Share {
         self.session.tally
     }
 
-    fn timed(&mut self, kind: &'static str, work: impl FnOnce(&mut Self)) {
-        let (before, start) = (self.session.tally.lists(), Instant::now());
-        work(self);
-        let lists = self.session.tally.lists() - before;
-        let seconds = start.elapsed().as_secs_f64();
-        println!("thread {}, {kind}: {lists} lists, {seconds:.1} s", self.me);
+    fn timed(&mut self, kind: &str, work: impl FnOnce(&mut Self)) {
+        self.section(&format!("thread {}, {kind}", self.me), work);
     }
 
     /// Whether the next list that is counted is this thread's.

@@ -8,11 +8,11 @@ pub mod sample;
 mod short;
 
 use std::process::ExitCode;
-use std::time::Instant;
 
 use self::cases::{Shape, Stuff};
 use self::compare::ListSession;
 use self::model::{List, work_words};
+use crate::report::Run;
 use crate::rng::Rng;
 
 /// The most records that document 01 accepts.
@@ -32,34 +32,18 @@ pub fn run(seed: u64, cases: u64) -> ExitCode {
     println!("seed {seed}, lists {cases} or more");
     let mut session = ListSession::default();
     let mut rng = Rng::new(seed);
-    timed(&mut session, "short lists, all of them", short::run);
-    timed(&mut session, "the longest lists", longest);
-    timed(&mut session, "long lists", |session| {
-        long(session, &mut rng)
-    });
-    timed(&mut session, "thousands of records", |session| {
+    session.section("short lists, all of them", short::run);
+    session.section("the longest lists", longest);
+    session.section("long lists", |session| long(session, &mut rng));
+    session.section("thousands of records", |session| {
         thousands(session, &mut rng)
     });
-    timed(&mut session, "random and damaged lists", |session| {
+    session.section("random and damaged lists", |session| {
         while session.tally.cases() < cases {
             random(session, &mut rng);
         }
     });
-    session.tally.print();
-    if session.tally.unexplained() > 0 {
-        return ExitCode::FAILURE;
-    }
-    ExitCode::SUCCESS
-}
-
-fn timed(session: &mut ListSession, what: &str, work: impl FnOnce(&mut ListSession)) {
-    let (before, start) = (session.tally.cases(), Instant::now());
-    work(session);
-    let cases = session.tally.cases() - before;
-    println!(
-        "{what}: {cases} lists, {:.1} s",
-        start.elapsed().as_secs_f64()
-    );
+    session.tally.finish()
 }
 
 /// One random list and damaged copies of it, each under numbers that are mostly good.

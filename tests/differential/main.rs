@@ -8,11 +8,11 @@ mod options;
 mod oracle;
 mod parts;
 mod recording;
+mod report;
 mod rezel;
 mod rng;
 mod shim;
 mod spelling;
-mod tally;
 mod trees;
 
 // Shared with the comparison of the definitions.

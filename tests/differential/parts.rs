@@ -9,45 +9,29 @@ pub mod sample;
 mod short;
 
 use std::process::ExitCode;
-use std::time::Instant;
 
 use self::cases::{MOST_RECORDS, Nesting};
-use self::compare::Session;
+use self::compare::PartSession;
+use crate::report::Run;
 use crate::rng::Rng;
 
 /// Compares at least so many cases.
 pub fn run(seed: u64, cases: u64) -> ExitCode {
     println!("seed {seed}, cases {cases} or more");
-    let mut session = Session::default();
+    let mut session = PartSession::default();
     let mut rng = Rng::new(seed);
-    timed(&mut session, "short parts, all of them", short::run);
-    timed(&mut session, "long parts", |session| {
-        long(session, &mut rng)
-    });
-    timed(&mut session, "random and damaged parts", |session| {
+    session.section("short parts, all of them", short::run);
+    session.section("long parts", |session| long(session, &mut rng));
+    session.section("random and damaged parts", |session| {
         while session.tally.cases() < cases {
             random(session, &mut rng);
         }
     });
-    session.tally.print();
-    if session.tally.unexplained() > 0 {
-        return ExitCode::FAILURE;
-    }
-    ExitCode::SUCCESS
-}
-
-fn timed(session: &mut Session, what: &str, work: impl FnOnce(&mut Session)) {
-    let (before, start) = (session.tally.cases(), Instant::now());
-    work(session);
-    let cases = session.tally.cases() - before;
-    println!(
-        "{what}: {cases} cases, {:.1} s",
-        start.elapsed().as_secs_f64()
-    );
+    session.tally.finish()
 }
 
 /// Parts at and above the most records that end indices of 16 bits allow.
-fn long(session: &mut Session, rng: &mut Rng) {
+fn long(session: &mut PartSession, rng: &mut Rng) {
     let nestings = [
         Nesting::Flat,
         Nesting::Chain,
@@ -72,7 +56,7 @@ fn long(session: &mut Session, rng: &mut Rng) {
 }
 
 /// One random part with calls on it, then damaged copies with a few calls each.
-fn random(session: &mut Session, rng: &mut Rng) {
+fn random(session: &mut PartSession, rng: &mut Rng) {
     let types = rng.pick(&[1, 2, 5, 300, 65_535, 65_536]);
     let most = rng.pick(&[4, 12, 40, 40, 120, 400]);
     let records = rng.below(most + 1);

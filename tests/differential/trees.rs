@@ -10,7 +10,6 @@ mod short;
 
 use std::process::ExitCode;
 use std::sync::Arc;
-use std::time::Instant;
 
 use self::cases::Mix;
 use self::compare::TreeSession;
@@ -18,6 +17,7 @@ use self::model::Handed;
 use self::rust_trees::cells_of;
 use crate::lists::cases::{Shape, Stuff, any_shape};
 use crate::oracle::{Oracle, run_on_large_stack};
+use crate::report::Run;
 use crate::rng::Rng;
 use crate::shapes;
 use crate::tree::{NodeSet, TreeBuild};
@@ -36,33 +36,15 @@ fn compare(seed: u64, cases: u64) -> ExitCode {
     let mut session = TreeSession::default();
     let mut rng = Rng::new(seed);
     let sets = small_sets(session.oracle());
-    timed(
-        &mut session,
-        "short slices of cells, all of them",
-        short::run,
-    );
-    timed(&mut session, "large trees", |session| {
-        large(session, &mut rng)
-    });
-    timed(&mut session, "random and damaged trees", |session| {
+    session.section("short slices of cells, all of them", short::run);
+    session.section("large trees", |session| large(session, &mut rng));
+    session.section("random and damaged trees", |session| {
         for _ in 0..cases {
             random(session, &mut rng, &sets);
         }
     });
     println!("{}", session.seen);
-    session.tally.print();
-    if session.tally.unexplained() > 0 {
-        return ExitCode::FAILURE;
-    }
-    ExitCode::SUCCESS
-}
-
-fn timed(session: &mut TreeSession, what: &str, work: impl FnOnce(&mut TreeSession)) {
-    let (before, start) = (session.seen.trees, Instant::now());
-    work(session);
-    let trees = session.seen.trees - before;
-    let seconds = start.elapsed().as_secs_f64();
-    println!("{what}: {trees} trees, {seconds:.1} s");
+    session.tally.finish()
 }
 
 /// The sets of up to six types that Rust trees of random shapes are made of.

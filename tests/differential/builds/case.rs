@@ -1,7 +1,7 @@
 //! A record list with what a build is given with it, and what is read off its records alone.
 
 use crate::lists::model::{List, work_words};
-use crate::tally::{Input, shortened};
+use crate::report::{Input, shortened};
 
 /// A list as the list check takes it, and a given length or none.
 #[derive(Clone, Copy, Debug)]

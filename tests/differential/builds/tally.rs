@@ -3,7 +3,7 @@
 use std::collections::BTreeMap;
 
 use crate::builds::case::{Case, Kept};
-use crate::tally::Input;
+use crate::report::Input;
 
 /// A list on which library and Rust differ.
 pub struct Difference {

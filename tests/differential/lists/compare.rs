@@ -4,8 +4,8 @@ use crate::calls;
 use crate::lent::{Filling, Lent, UNTOUCHED};
 use crate::lists::model::{self, List, Verdict};
 use crate::oracle::Oracle;
+use crate::report::{Input, Outcome, Run, Tally, shortened};
 use crate::rezel::Panicked;
-use crate::tally::{Input, Outcome, Tally, shortened};
 
 /// The noise changes once in so many lists.
 const NEW_NOISE_EVERY: usize = 64;
@@ -56,6 +56,14 @@ pub struct ListSession {
     oracle: Oracle,
     lent: Lent,
     calls: usize,
+}
+
+impl Run for ListSession {
+    const CASES: &str = "lists";
+
+    fn compared(&self) -> u64 {
+        self.tally.cases()
+    }
 }
 
 impl ListSession {

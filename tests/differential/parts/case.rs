@@ -1,7 +1,7 @@
 //! A part with a call on it, as the tables need it.
 
 use crate::parts::model::{Search, Slice};
-use crate::tally::{Input, shortened};
+use crate::report::{Input, shortened};
 
 #[derive(Clone, Copy, Debug)]
 pub enum Call {

@@ -1,6 +1,6 @@
 //! Random parts, damaged copies of them, and calls with figures around every boundary.
 
-use crate::parts::compare::{Part, Session};
+use crate::parts::compare::{Part, PartSession};
 use crate::parts::model::{Search, Slice};
 use crate::rng::Rng;
 
@@ -126,7 +126,7 @@ fn boundary_word(rng: &mut Rng, types: u32, words: &[u16], at: usize) -> u16 {
 }
 
 /// So many random calls on a part, slices and searches in turn.
-pub fn calls(session: &mut Session, rng: &mut Rng, part: &Part, count: usize) {
+pub fn calls(session: &mut PartSession, rng: &mut Rng, part: &Part, count: usize) {
     for _ in 0..count / 2 {
         session.slice(part, slice_call(rng, &part.words));
         session.search(part, search_call(rng, &part.words));
@@ -135,7 +135,7 @@ pub fn calls(session: &mut Session, rng: &mut Rng, part: &Part, count: usize) {
 
 /// Every boundary of a part once: each record's offset and end index as a bound, each start and end as a base and as a
 /// position, and the numbers beside them.
-pub fn sweep(session: &mut Session, rng: &mut Rng, part: &Part) {
+pub fn sweep(session: &mut PartSession, rng: &mut Rng, part: &Part) {
     let length = part.words.len();
     for record in part.words.chunks_exact(4) {
         for bound in beside(usize::from(record[3])) {

@@ -5,8 +5,8 @@ use crate::lent::UNTOUCHED;
 use crate::oracle::{self, Oracle, TreeBuffer};
 use crate::parts::case::{Call, Case};
 use crate::parts::model::{self, Answer, Search, Slice};
+use crate::report::{Outcome, Run, Tally};
 use crate::rezel::Panicked;
-use crate::tally::{Outcome, Tally};
 
 /// One call in so many is made again with an answer slice of 0, 1, 2 or 3 words in turn.
 const SHORT_INFO_EVERY: u64 = 5;
@@ -46,13 +46,21 @@ impl Part {
 }
 
 #[derive(Default)]
-pub struct Session {
+pub struct PartSession {
     pub oracle: Oracle,
     pub tally: Tally,
     calls: u64,
 }
 
-impl Session {
+impl Run for PartSession {
+    const CASES: &str = "cases";
+
+    fn compared(&self) -> u64 {
+        self.tally.cases()
+    }
+}
+
+impl PartSession {
     /// A new part, after the part check on it has been compared.
     pub fn part(&mut self, types: u32, words: Vec<u16>) -> Part {
         let part = Part::new(&mut self.oracle, types, words);

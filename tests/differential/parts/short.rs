@@ -1,6 +1,6 @@
 //! Every short part over small alphabets, good and bad, with every bound, side and direction.
 
-use crate::parts::compare::{Part, Session};
+use crate::parts::compare::{Part, PartSession};
 use crate::parts::model::{Search, Slice};
 use crate::spelling::{Records, uneven};
 
@@ -36,7 +36,7 @@ const THREE: Records<u16> = Records {
     lasts: &[&[0, 4, 6, 8, 12, 16], &[4, 8, 10, 12, 16], &[8, 11, 12, 16]],
 };
 
-pub fn run(session: &mut Session) {
+pub fn run(session: &mut PartSession) {
     for types in TYPES {
         with_calls(session, types, &[]);
         ONE.spell(|words| with_calls(session, types, words));
@@ -47,7 +47,7 @@ pub fn run(session: &mut Session) {
 }
 
 /// Lengths that are no multiple of 4, with records that would be at fault too.
-fn uneven_parts(session: &mut Session) {
+fn uneven_parts(session: &mut PartSession) {
     for length in 1..=13 {
         for first in [0, 1, 9, 65_535] {
             for types in TYPES {
@@ -60,7 +60,7 @@ fn uneven_parts(session: &mut Session) {
 }
 
 /// A part and the calls on it: all bounds where it is accepted, a few where it is refused before they are looked at.
-fn with_calls(session: &mut Session, types: u32, words: &[u16]) {
+fn with_calls(session: &mut PartSession, types: u32, words: &[u16]) {
     let part = session.part(types, words.to_vec());
     let length = part.words.len();
     if part.verdict.number != 0 {
@@ -82,7 +82,7 @@ fn with_calls(session: &mut Session, types: u32, words: &[u16]) {
 }
 
 /// One slice and one search on bounds that are refused, or on a refused part.
-fn calls_at(session: &mut Session, part: &Part, from: usize, to: usize) {
+fn calls_at(session: &mut PartSession, part: &Part, from: usize, to: usize) {
     let room = part.words.len();
     let slice = Slice {
         from,
@@ -102,7 +102,7 @@ fn calls_at(session: &mut Session, part: &Part, from: usize, to: usize) {
     session.search(part, search);
 }
 
-fn slices(session: &mut Session, part: &Part, from: usize, to: usize) {
+fn slices(session: &mut PartSession, part: &Part, from: usize, to: usize) {
     for base in [0, 1, 2, 3, 65_535, 65_536, u32::MAX] {
         let need = to - from;
         for room in [0, need.saturating_sub(1), need, need + 1] {
@@ -117,7 +117,7 @@ fn slices(session: &mut Session, part: &Part, from: usize, to: usize) {
     }
 }
 
-fn searches(session: &mut Session, part: &Part, from: usize, to: usize) {
+fn searches(session: &mut PartSession, part: &Part, from: usize, to: usize) {
     for side in SIDES {
         for direction in DIRECTIONS {
             for (base, position) in places(part) {

@@ -4,8 +4,8 @@ use crate::calls;
 use crate::flatten;
 use crate::lent::{Filling, Lent, UNTOUCHED};
 use crate::oracle::Oracle;
+use crate::report::{Input, Outcome, Run, Tally, shortened};
 use crate::rezel::Panicked;
-use crate::tally::{Input, Outcome, Tally, shortened};
 use crate::trees::model::{self, Handed, Verdict};
 use crate::trees::rust_trees;
 
@@ -154,6 +154,14 @@ pub struct TreeSession {
     lent: Lent,
     out: Vec<u32>,
     packed: Vec<u16>,
+}
+
+impl Run for TreeSession {
+    const CASES: &str = "trees";
+
+    fn compared(&self) -> u64 {
+        self.seen.trees
+    }
 }
 
 impl TreeSession {

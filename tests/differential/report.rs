@@ -1,6 +1,25 @@
-//! Counts of what was compared, and the tables printed at the end.
+//! What a run prints: a line for each of its sections, and tables of what was compared.
 
 use std::collections::BTreeMap;
+use std::process::ExitCode;
+use std::time::Instant;
+
+/// A run that compares many cases, section after section.
+pub trait Run: Sized {
+    /// What its cases are called.
+    const CASES: &str;
+
+    /// How many have been compared.
+    fn compared(&self) -> u64;
+
+    /// Does the work of one section, and prints how many cases it had and how long it took.
+    fn section(&mut self, what: &str, work: impl FnOnce(&mut Self)) {
+        let (before, start) = (self.compared(), Instant::now());
+        work(self);
+        let (cases, seconds) = (self.compared() - before, start.elapsed().as_secs_f64());
+        println!("{what}: {cases} {}, {seconds:.1} s", Self::CASES);
+    }
+}
 
 /// One input of a call, as the tables need it.
 pub trait Input {
@@ -97,11 +116,16 @@ impl Tally {
         self.rows.values().map(|row| row.cases).sum()
     }
 
-    pub fn unexplained(&self) -> u64 {
-        self.unexplained
+    /// Prints the tables; failed where a difference is not explained.
+    pub fn finish(&self) -> ExitCode {
+        self.print();
+        match self.unexplained {
+            0 => ExitCode::SUCCESS,
+            _ => ExitCode::FAILURE,
+        }
     }
 
-    pub fn print(&self) {
+    fn print(&self) {
         println!(
             "{:12}{:>8}{:>12}{:>12}{:>12}{:>12}",
             "call", "number", "cases", "agreements", "panics", "intended"
