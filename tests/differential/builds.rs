@@ -315,14 +315,7 @@ fn slow(shape: Bundle, bound: u32) -> bool {
 fn random(session: &mut BuildSession, rng: &mut Rng) {
     let list = random_lists::random(rng);
     let words = list.records();
-    let numbers = Numbers {
-        types: list.types,
-        first_repeat: list.first_repeat,
-        bound: list.bound,
-        start: list.start,
-        top: list.top,
-        given: list.given,
-    };
+    let numbers = Numbers::of(&list);
     session.check("random", &numbers.with(&words));
     for _ in 0..OTHERS {
         let other = Numbers {

@@ -1,5 +1,8 @@
-//! The work slice that is lent to a call: what it holds before, and the words behind it.
+//! The slices that are lent to a call: what they hold before it, and what must stay as it is.
 
+use std::fmt::Debug;
+
+use crate::report::shortened;
 use crate::rng::Rng;
 
 /// What stands in a slice before a call where nothing else is said: no answer has it in any word.
@@ -7,6 +10,12 @@ pub const UNTOUCHED: u32 = 0xdead_cafe;
 
 /// Words behind the work slice that must stay as they are.
 const GUARD: usize = 16;
+
+/// Words behind an output slice that must stay as they are.
+pub const BEHIND: usize = 8;
+
+/// The noise changes once in so many cases.
+const NEW_NOISE_EVERY: u64 = 64;
 
 /// What the work slice holds before a call.
 #[derive(Clone, Copy, Debug)]
@@ -39,9 +48,11 @@ impl Default for Lent {
 }
 
 impl Lent {
-    /// Other noise from here on.
-    pub fn stir(&mut self) {
-        self.noise.rotate_left(5);
+    /// Other noise from some cases on; cases are counted from 1.
+    pub fn stir(&mut self, case: u64) {
+        if case % NEW_NOISE_EVERY == 0 {
+            self.noise.rotate_left(5);
+        }
     }
 
     /// So many words with a filling, and the guard behind them.
@@ -64,4 +75,45 @@ impl Lent {
         guard.fill(UNTOUCHED);
         (work, guard)
     }
+}
+
+pub fn untouched(guard: &[u32]) -> bool {
+    guard.iter().all(|&word| word == UNTOUCHED)
+}
+
+/// What four words hold after a call that was lent so many of them to answer in: the place and two counts.
+pub fn answered(told: [u32; 3], held: usize) -> [u32; 4] {
+    let [place, first, second] = told;
+    let mut words = [place, first, second, UNTOUCHED];
+    words[held..].fill(UNTOUCHED);
+    words
+}
+
+/// So many words of output and some behind them, all of one value.
+pub fn refill<A: Clone>(words: &mut Vec<A>, count: usize, value: A) {
+    words.clear();
+    words.resize(count + BEHIND, value);
+}
+
+/// Whether an output holds what is expected at its front, and nothing new behind it.
+pub fn front_only<A: Copy + PartialEq + Debug>(
+    name: &str,
+    out: &[A],
+    written: &[A],
+    untouched: A,
+) -> Result<(), String> {
+    let (front, rest) = out.split_at(written.len());
+    if front != written {
+        let at = front.iter().zip(written).position(|(a, b)| a != b);
+        let at = at.unwrap_or(0);
+        return Err(format!(
+            "{name} differ from word {at} on: written {}, expected {}",
+            shortened(&front[at..]),
+            shortened(&written[at..])
+        ));
+    }
+    if rest.iter().any(|&word| word != untouched) {
+        return Err(format!("{name} behind the counted front were written"));
+    }
+    Ok(())
 }

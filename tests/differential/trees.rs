@@ -20,8 +20,8 @@ use crate::oracle::{Oracle, run_on_large_stack};
 use crate::report::Run;
 use crate::rng::Rng;
 use crate::shapes;
-use crate::tree::{NodeSet, TreeBuild};
-use crate::{TextSize, Tree, random_lists};
+use crate::tree::NodeSet;
+use crate::{Tree, random_lists};
 
 /// Damaged copies of each random tree.
 const COPIES: usize = 3;
@@ -123,12 +123,7 @@ fn written(rng: &mut Rng) -> Handed {
 fn built(oracle: &mut Oracle, rng: &mut Rng) -> Handed {
     let list = random_lists::random(rng);
     let set = oracle.set(list.types).expect("types of a list");
-    let mut build = TreeBuild::new(list.records(), set, list.top as u16);
-    build.start = TextSize::new(list.start);
-    build.length = list.given.map(TextSize::new);
-    build.max_buffer_length = TextSize::new(list.bound);
-    build.min_repeat_type = list.first_repeat as usize;
-    let tree = Tree::build(&build);
+    let tree = Tree::build(&list.build(list.records(), set));
     handed(list.types, list.first_repeat, list.start, &tree)
 }
 

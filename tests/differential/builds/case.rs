@@ -1,6 +1,7 @@
 //! A record list with what a build is given with it, and what is read off its records alone.
 
 use crate::lists::model::{List, work_words};
+use crate::random_lists;
 use crate::report::{Input, shortened};
 
 /// A list as the list check takes it, and a given length or none.
@@ -61,6 +62,18 @@ impl Numbers {
             start: 0,
             top: 0,
             given: None,
+        }
+    }
+
+    /// Those that a random list was made for.
+    pub fn of(list: &random_lists::List) -> Self {
+        Self {
+            types: list.types,
+            first_repeat: list.first_repeat,
+            bound: list.bound,
+            start: list.start,
+            top: list.top,
+            given: list.given,
         }
     }
 

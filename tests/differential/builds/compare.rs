@@ -3,7 +3,7 @@
 
 use crate::builds::case::{self, Case};
 use crate::builds::tally::BuildTally;
-use crate::lent::{Filling, Lent, UNTOUCHED};
+use crate::lent::{Filling, Lent, UNTOUCHED, answered, front_only, refill, untouched};
 use crate::lists::model::{List, Verdict, work_words};
 use crate::oracle::Oracle;
 use crate::report::shortened;
@@ -11,12 +11,6 @@ use crate::rezel::Panicked;
 use crate::trees::model::{self, Handed};
 use crate::trees::rust_trees;
 use crate::{Tree, calls, flatten};
-
-/// The noise changes once in so many lists.
-const NEW_NOISE_EVERY: u64 = 64;
-
-/// Words behind an output slice that must stay as they are.
-const BEHIND: usize = 8;
 
 /// Lists of fewer records are tried with some of the slices in turn; longer ones with all of them, where they are fewer than
 /// many one time in eight.
@@ -60,9 +54,7 @@ impl BuildSession {
     /// Compares one list and counts it under a kind.
     pub fn check(&mut self, kind: &'static str, case: &Case) {
         self.lists += 1;
-        if self.lists % NEW_NOISE_EVERY == 0 {
-            self.lent.stir();
-        }
+        self.lent.stir(self.lists);
         match self.compare(case) {
             Ok(number) => self.tally.count(kind, number),
             Err(what) => self.tally.differ(kind, case, what),
@@ -177,14 +169,13 @@ impl BuildSession {
         let words = &mut self.words[..lent.words];
         let mut info = [UNTOUCHED; 4];
         let answer = calls::build(case, work, cells, words, &mut info[..lent.held]);
-        let mut wanted = [told[0], told[1], told[2], UNTOUCHED];
-        wanted[lent.held..].fill(UNTOUCHED);
+        let wanted = answered(told, lent.held);
         if answer != number || info != wanted {
             return Err(format!(
                 "library {answer} {info:x?}, expected {number} {wanted:x?}, lent {lent:?}"
             ));
         }
-        if guard.iter().any(|&word| word != UNTOUCHED) {
+        if !untouched(guard) {
             return Err(format!(
                 "words behind the work slice written, lent {lent:?}"
             ));
@@ -316,33 +307,4 @@ fn short(just: Slices) -> Vec<(Slices, u32)> {
         all.push((less(0, 1, 1), 12));
     }
     all
-}
-
-/// So many words and some behind them, all of one value.
-fn refill<A: Clone>(words: &mut Vec<A>, count: usize, value: A) {
-    words.clear();
-    words.resize(count + BEHIND, value);
-}
-
-/// Whether an output holds what is expected at its front, and nothing new behind it.
-fn front_only<A: Copy + PartialEq + std::fmt::Debug>(
-    name: &str,
-    out: &[A],
-    written: &[A],
-    untouched: A,
-) -> Result<(), String> {
-    let (front, rest) = out.split_at(written.len());
-    if front != written {
-        let at = front.iter().zip(written).position(|(a, b)| a != b);
-        let at = at.unwrap_or(0);
-        return Err(format!(
-            "{name} differ from word {at} on: written {}, expected {}",
-            shortened(&front[at..]),
-            shortened(&written[at..])
-        ));
-    }
-    if rest.iter().any(|&word| word != untouched) {
-        return Err(format!("{name} behind the counted front were written"));
-    }
-    Ok(())
 }

@@ -49,14 +49,7 @@ impl recording::Sample for Sample {
         if rng.one_in(4) {
             words = damaged(rng, list.types, &words);
         }
-        let mut numbers = Numbers {
-            types: list.types,
-            first_repeat: list.first_repeat,
-            bound: list.bound,
-            start: list.start,
-            top: list.top,
-            given: list.given,
-        };
+        let mut numbers = Numbers::of(&list);
         match rng.below(90) {
             0 => numbers.types = 65_537,
             1 => numbers.bound = 65_536,

@@ -4,13 +4,13 @@ use std::collections::HashMap;
 use std::fmt;
 use std::sync::Arc;
 
+use crate::NodeType;
 use crate::antt::{self, Case};
 use crate::flatten::{Flat, flatten, lines, outline};
 use crate::lists::List;
-use crate::rezel::tree::{NodeSet, Tree, TreeBuild, TreeChild};
+use crate::rezel::tree::{NodeSet, Tree, TreeChild};
 use crate::rezel::{guarded, node_set};
 use crate::trees::Sample;
-use crate::{NodeType, TextSize};
 
 /// What a case is about.
 #[derive(Clone)]
@@ -126,11 +126,7 @@ impl Rust {
 
     /// The tree that the Rust builds of records; none where it panics.
     fn build(&mut self, list: &List, records: Vec<u32>) -> Option<Tree> {
-        let mut build = TreeBuild::new(records, self.set(list.types), list.top as u16);
-        build.start = TextSize::new(list.start);
-        build.length = list.given.map(TextSize::new);
-        build.max_buffer_length = TextSize::new(list.bound);
-        build.min_repeat_type = list.first_repeat as usize;
+        let build = list.build(records, self.set(list.types));
         guarded(|| Tree::build(&build)).ok()
     }
 

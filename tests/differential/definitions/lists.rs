@@ -1,7 +1,11 @@
 //! Random accepted record lists, with the numbers that are given with them.
 
+use std::sync::Arc;
+
+use crate::TextSize;
 use crate::forests::{MOST_RECORDS, Maker, Node, count};
 use crate::rng::Rng;
+use crate::tree::{NodeSet, TreeBuild};
 
 /// A record list and what a build is given with it, in document 01's letters: T, F, b, S, top id, length.
 #[derive(Clone, Debug)]
@@ -53,6 +57,16 @@ impl List {
         let mut words = Vec::new();
         write_records(&self.forest, &mut words);
         words
+    }
+
+    /// The Rust's build of records with the numbers of this list.
+    pub fn build(&self, records: Vec<u32>, set: Arc<NodeSet>) -> TreeBuild {
+        let mut build = TreeBuild::new(records, set, self.top as u16);
+        build.start = TextSize::new(self.start);
+        build.length = self.given.map(TextSize::new);
+        build.max_buffer_length = TextSize::new(self.bound);
+        build.min_repeat_type = self.first_repeat as usize;
+        build
     }
 
     /// The ordinary reading: lines of depth, id, start, end.

@@ -1,14 +1,11 @@
 //! One list at a time: library against model in everything, library against the Rust where it can be asked.
 
 use crate::calls;
-use crate::lent::{Filling, Lent, UNTOUCHED};
+use crate::lent::{Filling, Lent, UNTOUCHED, answered, untouched};
 use crate::lists::model::{self, List, Verdict};
 use crate::oracle::Oracle;
 use crate::report::{Input, Outcome, Run, Tally, shortened};
 use crate::rezel::Panicked;
-
-/// The noise changes once in so many lists.
-const NEW_NOISE_EVERY: usize = 64;
 
 /// Refused lists of more records are not shown to the Rust: spans that cross may make it recurse once a record.
 const MOST_SHOWN_REFUSED: usize = 10_000;
@@ -55,7 +52,7 @@ pub struct ListSession {
     pub tally: Tally,
     oracle: Oracle,
     lent: Lent,
-    calls: usize,
+    lists: u64,
 }
 
 impl Run for ListSession {
@@ -74,14 +71,12 @@ impl ListSession {
 
     /// The same where the answer is known from the way the list was made.
     pub fn check_against(&mut self, list: &List, expected: Verdict) {
-        self.calls += 1;
-        if self.calls % NEW_NOISE_EVERY == 0 {
-            self.lent.stir();
-        }
+        self.lists += 1;
+        self.lent.stir(self.lists);
         let calls = [
             (Filling::Left, 4),
             (Filling::Noise, 4),
-            (Filling::Ones, self.calls % 4),
+            (Filling::Ones, (self.lists % 4) as usize),
             (Filling::Zeros, 4),
         ];
         for (filling, held) in calls {
@@ -104,14 +99,13 @@ impl ListSession {
         let (work, guard) = self.lent.filled(list.work, filling);
         let mut info = [UNTOUCHED; 4];
         let number = calls::check(list, work, &mut info[..held]);
-        let mut wanted = [expected.place, expected.count, 0, UNTOUCHED];
-        wanted[held..].fill(UNTOUCHED);
-        if number != expected.number || info != wanted {
+        let told = [expected.place, expected.count, 0];
+        if number != expected.number || info != answered(told, held) {
             return Err(format!(
                 "library {number} {info:x?}, expected {expected:?}, {held} words held, work of {filling:?}"
             ));
         }
-        if guard.iter().any(|&word| word != UNTOUCHED) {
+        if !untouched(guard) {
             return Err(String::from("words behind the work slice were written"));
         }
         Ok(())

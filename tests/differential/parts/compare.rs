@@ -1,7 +1,7 @@
 //! One case at a time: library against model in everything, library against the Rust where the Rust has an answer.
 
 use crate::calls;
-use crate::lent::UNTOUCHED;
+use crate::lent::{UNTOUCHED, answered};
 use crate::oracle::{self, Oracle, TreeBuffer};
 use crate::parts::case::{Call, Case};
 use crate::parts::model::{self, Answer, Search, Slice};
@@ -173,9 +173,8 @@ impl PartSession {
         let mut info = [UNTOUCHED; 4];
         let number = call(&mut info[..held]);
         let [first, second] = expected.counts;
-        let mut wanted = [told(expected.place), told(first), told(second), UNTOUCHED];
-        wanted[held..].fill(UNTOUCHED);
-        if number == expected.number && info == wanted {
+        let told = [expected.place, first, second].map(word);
+        if number == expected.number && info == answered(told, held) {
             return true;
         }
         let what = format!("library {number} {info:x?}, model {expected:?}, {held} words held");
@@ -207,7 +206,7 @@ pub fn search_rust(part: &Part, call: &Search) -> Result<Option<usize>, Panicked
 }
 
 /// A place or a count as a word of an answer slice.
-fn told(number: u64) -> u32 {
+fn word(number: u64) -> u32 {
     u32::try_from(number).unwrap_or(u32::MAX)
 }
 

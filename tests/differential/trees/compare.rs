@@ -2,18 +2,12 @@
 
 use crate::calls;
 use crate::flatten;
-use crate::lent::{Filling, Lent, UNTOUCHED};
+use crate::lent::{BEHIND, Filling, Lent, UNTOUCHED, answered, front_only, refill, untouched};
 use crate::oracle::Oracle;
 use crate::report::{Input, Outcome, Run, Tally, shortened};
 use crate::rezel::Panicked;
 use crate::trees::model::{self, Handed, Verdict};
 use crate::trees::rust_trees;
-
-/// The noise changes once in so many trees.
-const NEW_NOISE_EVERY: u64 = 64;
-
-/// Words behind an output slice, and spare ones in a roomy slice, that must stay as they are.
-const BEHIND: usize = 8;
 
 /// One call on a tree.
 struct Case<'a> {
@@ -21,15 +15,16 @@ struct Case<'a> {
     tree: &'a Handed,
 }
 
+/// A call, with its number in a recorded line.
 #[derive(Clone, Copy)]
-enum Call {
-    Materialise,
-    List,
-    Balance,
+pub enum Call {
+    Materialise = 1,
+    List = 2,
+    Balance = 3,
 }
 
 impl Call {
-    fn name(self) -> &'static str {
+    pub fn name(self) -> &'static str {
         match self {
             Self::Materialise => "materialise",
             Self::List => "list",
@@ -172,9 +167,7 @@ impl TreeSession {
     /// Compares the calls on one tree with the model and with the Rust.
     pub fn check(&mut self, tree: &Handed) {
         self.seen.trees += 1;
-        if self.seen.trees % NEW_NOISE_EVERY == 0 {
-            self.lent.stir();
-        }
+        self.lent.stir(self.seen.trees);
         self.list(tree);
         let bad = model::bad_cell(tree.types, 0, true, &tree.cells, &tree.words);
         let mut expected = Expected::new(Call::Materialise, bad, work_for(tree));
@@ -331,19 +324,22 @@ impl TreeSession {
             Call::Balance => calls::balance(tree, work, out, packed, held),
         };
         let [first, second] = verdict.counts;
-        let mut wanted = [verdict.place, first, second, UNTOUCHED];
-        wanted[lent.held..].fill(UNTOUCHED);
+        let wanted = answered([verdict.place, first, second], lent.held);
         if number != verdict.number || info != wanted {
             let Slices { held, filling, .. } = lent;
             return Err(format!(
                 "library {number} {info:x?}, expected {verdict:?}, {held} words held, work of {filling:?}"
             ));
         }
-        if guard.iter().any(|&word| word != UNTOUCHED) {
+        if !untouched(guard) {
             return Err(String::from("words behind the work slice were written"));
         }
-        front_only(&self.out, &expected.written, number, UNTOUCHED)?;
-        front_only(&self.packed, &expected.packed, number, UNTOUCHED as u16)
+        let (written, packed): (&[u32], &[u16]) = match number {
+            0 => (&expected.written, &expected.packed),
+            _ => (&[], &[]),
+        };
+        front_only("words", &self.out, written, UNTOUCHED)?;
+        front_only("words", &self.packed, packed, UNTOUCHED as u16)
     }
 
     /// Accepted: the Rust's answer was expected. Refused: only 1 has a counterpart in the Rust.
@@ -365,28 +361,4 @@ impl TreeSession {
 /// The work slice that materialise and balance ask for.
 fn work_for(tree: &Handed) -> usize {
     model::work_words(tree.cells.len(), tree.words.len())
-}
-
-/// So many words and some behind them, all of one value.
-fn refill<A: Clone>(words: &mut Vec<A>, count: usize, value: A) {
-    words.clear();
-    words.resize(count + BEHIND, value);
-}
-
-/// Whether an output holds what is expected at its front, and nothing new behind it; refused, nothing new at all.
-fn front_only<A: Copy + PartialEq + std::fmt::Debug>(
-    out: &[A],
-    written: &[A],
-    number: u32,
-    untouched: A,
-) -> Result<(), String> {
-    let written = if number == 0 { written } else { &[] };
-    let (front, rest) = out.split_at(written.len());
-    if front != written {
-        return Err(format!("written {}", shortened(front)));
-    }
-    if rest.iter().any(|&word| word != untouched) {
-        return Err(String::from("words behind the counted front were written"));
-    }
-    Ok(())
 }

@@ -10,6 +10,7 @@ use crate::recording::{self, Taken};
 use crate::rezel::{Panicked, guarded};
 use crate::rng::Rng;
 use crate::tree::NodeSet;
+use crate::trees::compare::Call;
 use crate::trees::model::{self, Handed};
 use crate::trees::{cases, rust_trees};
 use crate::{Tree, flatten, trees};
@@ -32,24 +33,6 @@ impl Default for Sample {
             oracle,
             sets,
             taken: Taken::default(),
-        }
-    }
-}
-
-/// The call of a line, by its first number.
-#[derive(Clone, Copy)]
-enum Call {
-    Materialise = 1,
-    List = 2,
-    Balance = 3,
-}
-
-impl Call {
-    fn name(self) -> &'static str {
-        match self {
-            Self::Materialise => "materialise",
-            Self::List => "list",
-            Self::Balance => "balance",
         }
     }
 }
