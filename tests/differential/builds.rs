@@ -333,12 +333,7 @@ fn random(session: &mut BuildSession, rng: &mut Rng) {
 
 /// A random forest of any number of types, and now and then a number that is refused.
 fn written(session: &mut BuildSession, rng: &mut Rng) {
-    let stuff = Stuff {
-        types: rng.pick(&[1, 2, 5, 300, 65_535, 65_536]),
-        start: rng.pick(&[0, 0, 1, 5, 70_000, u32::MAX - 30]),
-        gap: rng.pick(&[0, 1, 3]),
-        length: rng.pick(&[0, 1, 3, 20, 70_000]),
-    };
+    let stuff = Stuff::any(rng, &[0, 1, 3, 20, 70_000]);
     let most = rng.pick(&[4, 8, 12, 20, 40, 120]);
     let shape = any_shape(rng);
     let count = rng.below(most + 1);

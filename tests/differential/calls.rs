@@ -137,19 +137,16 @@ macro_rules! call {
 
 /// The list check. The slice decides what is lent; the list's own figure for the work slice is not looked at.
 pub fn check(list: &List, work: &mut [u32], info: &mut [u32]) -> u32 {
-    let List {
-        types,
-        first_repeat,
-        bound,
-        start,
-        top,
-        words,
-        ..
-    } = *list;
     call!(
         hulwyth_check,
-        [types, first_repeat, bound, start, top],
-        [words],
+        [
+            list.types,
+            list.first_repeat,
+            list.bound,
+            list.start,
+            list.top
+        ],
+        [list.words],
         [work, info]
     )
 }
@@ -235,17 +232,17 @@ pub fn part_slice(
 }
 
 pub fn part_search(types: u32, words: &[u16], call: &Search, info: &mut [u32]) -> u32 {
-    let Search {
-        from,
-        to,
-        direction,
-        position,
-        base,
-        side,
-    } = *call;
     call!(
         hulwyth_part_search,
-        [types, from, to, direction, position, base, side],
+        [
+            types,
+            call.from,
+            call.to,
+            call.direction,
+            call.position,
+            call.base,
+            call.side
+        ],
         [words],
         [info]
     )

@@ -11,12 +11,9 @@ use std::process::ExitCode;
 
 use self::cases::{Shape, Stuff};
 use self::compare::ListSession;
-use self::model::{List, work_words};
+use self::model::{List, MOST_RECORDS, work_words};
 use crate::report::Run;
 use crate::rng::Rng;
-
-/// The most records that document 01 accepts.
-const MOST_RECORDS: usize = 1_048_576;
 
 const SHAPES: [Shape; 6] = [
     Shape::Flat,
@@ -48,12 +45,7 @@ pub fn run(seed: u64, cases: u64) -> ExitCode {
 
 /// One random list and damaged copies of it, each under numbers that are mostly good.
 fn random(session: &mut ListSession, rng: &mut Rng) {
-    let stuff = Stuff {
-        types: rng.pick(&[1, 2, 5, 300, 65_535, 65_536]),
-        start: rng.pick(&[0, 0, 1, 5, 70_000, u32::MAX - 30]),
-        gap: rng.pick(&[0, 1, 3]),
-        length: rng.pick(&[0, 1, 3, 20, 70_000]),
-    };
+    let stuff = Stuff::any(rng, &[0, 1, 3, 20, 70_000]);
     let most = rng.pick(&[4, 8, 12, 20, 40, 120]);
     let records = rng.below(most + 1);
     let shape = cases::any_shape(rng);

@@ -85,15 +85,14 @@ pub fn search(buffer: &TreeBuffer, call: &Search) -> Result<Option<usize>, Panic
 
 /// The same without a guard: for timing.
 pub fn search_unguarded(buffer: &TreeBuffer, call: &Search) -> Option<usize> {
-    let Search {
-        from,
-        to,
-        direction,
-        position,
-        base,
-        side,
-    } = *call;
-    tree::search_buffer(buffer, [from, to], direction, position, base, side)
+    tree::search_buffer(
+        buffer,
+        [call.from, call.to],
+        call.direction,
+        call.position,
+        call.base,
+        call.side,
+    )
 }
 
 /// The Rust recurses once for each nested record and tree.

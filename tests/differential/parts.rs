@@ -2,7 +2,7 @@
 
 pub mod bench;
 mod case;
-mod cases;
+pub mod cases;
 mod compare;
 pub mod model;
 pub mod sample;

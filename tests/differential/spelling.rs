@@ -59,6 +59,41 @@ pub struct Lists {
     pub short: &'static [usize],
 }
 
+const MAX: u32 = u32::MAX;
+
+/// No records, under numbers around every boundary.
+pub const NO_RECORDS: Lists = Lists {
+    records: Records {
+        ids: &[0],
+        ranges: &[(0, 0)],
+        lasts: &[],
+    },
+    types: &[0, 1, 2, 65_535, 65_536, 65_537, MAX],
+    repeats: &[0, 1, 65_536, MAX],
+    bounds: &[0, 1, 65_534, 65_535, 65_536, MAX],
+    starts: &[0, 1, MAX],
+    tops: &[0, 1, 65_534, 65_535, 65_536, MAX],
+    given: &[None],
+    short: &[0],
+};
+
+/// The same under a few numbers that are not refused, for records of two types.
+pub const TWO_TYPES: Lists = Lists {
+    types: &[2],
+    repeats: &[0, 1, 2],
+    bounds: &[0, 1, 1_024],
+    starts: &[0, 1],
+    tops: &[0],
+    ..NO_RECORDS
+};
+
+/// Four records of two types, whose sizes are not refused alone.
+pub const FOUR_RECORDS: Records<u32> = Records {
+    ids: &[0, 1],
+    ranges: &[(0, 1), (1, 1), (1, 2), (0, 2)],
+    lasts: &[&[4], &[4, 8], &[4, 8, 12], &[4, 8, 12, 16]],
+};
+
 impl Lists {
     /// Every list under all the numbers.
     pub fn spell(&self, mut visit: impl FnMut(&Case)) {

@@ -107,12 +107,7 @@ fn handed(types: u32, first_repeat: u32, start: u32, tree: &Tree) -> Handed {
 }
 
 fn written(rng: &mut Rng) -> Handed {
-    let stuff = Stuff {
-        types: rng.pick(&[1, 2, 5, 300, 65_535, 65_536]),
-        start: rng.pick(&[0, 0, 1, 5, 70_000, u32::MAX - 30]),
-        gap: rng.pick(&[0, 1, 3]),
-        length: rng.pick(&[0, 1, 3, 20, 20_000, 100_000_000]),
-    };
+    let stuff = Stuff::any(rng, &[0, 1, 3, 20, 20_000, 100_000_000]);
     let most = rng.pick(&[1, 4, 12, 40, 120, 400]);
     let (nodes, shape) = (rng.below(most + 1), any_shape(rng));
     let mix = cases::any_mix(rng);

@@ -6,7 +6,7 @@ use std::time::Instant;
 
 use crate::builds::bundles::{self, Bundle, FIRST_REPEAT, Place, TYPES};
 use crate::builds::case::{Case, Numbers};
-use crate::lists::model::work_words;
+use crate::lists::model::{MOST_RECORDS, work_words};
 use crate::oracle::{Oracle, run_on_large_stack};
 use crate::rng::Rng;
 use crate::tree::TreeBuild;
@@ -17,9 +17,8 @@ use crate::{TextSize, Tree, calls};
 const REPEATS: usize = 20;
 const SECONDS: f64 = 1.5;
 
-/// The records of a bundle, and the most that a list has.
+/// The records of a bundle.
 const BUNDLE: usize = 200_000;
-const MOST: usize = 1_048_576;
 
 const NOTE: &str = "Milliseconds of a build, best of up to 20 repeats in one process (once where it takes longer than a second and a half).
 The Rust's is `Tree::build` with its allocation, without dropping the tree; it checks no list and writes no cells. The build
@@ -61,7 +60,7 @@ fn measure(seed: u64) -> ExitCode {
     for bound in [0, 1_024, 65_535] {
         bench.row("random nesting", &words, bound, true);
     }
-    let words = bundles::empties(MOST, Place::First);
+    let words = bundles::empties(MOST_RECORDS, Place::First);
     for bound in [0, 1_024, 65_535] {
         bench.row("empty siblings", &words, bound, false);
     }
@@ -79,9 +78,9 @@ impl Bench {
     fn new() -> Self {
         Self {
             oracle: Oracle::default(),
-            work: vec![1; work_words(MOST)],
-            cells: vec![1; (2 * MOST + 1) * 7],
-            words: vec![1; 4 * MOST],
+            work: vec![1; work_words(MOST_RECORDS)],
+            cells: vec![1; (2 * MOST_RECORDS + 1) * 7],
+            words: vec![1; 4 * MOST_RECORDS],
         }
     }
 

@@ -2,23 +2,13 @@
 //! more records.
 
 use crate::builds::case::{Case, Numbers};
-use crate::spelling::{Lists, Records, uneven};
+use crate::spelling::{FOUR_RECORDS, Lists, NO_RECORDS, Records, TWO_TYPES, uneven};
 
 const MAX: u32 = u32::MAX;
 
 const NONE: Lists = Lists {
-    records: Records {
-        ids: &[0],
-        ranges: &[(0, 0)],
-        lasts: &[],
-    },
-    types: &[0, 1, 2, 65_535, 65_536, 65_537, MAX],
-    repeats: &[0, 1, 65_536, MAX],
-    bounds: &[0, 1, 65_534, 65_535, 65_536, MAX],
-    starts: &[0, 1, MAX],
-    tops: &[0, 1, 65_534, 65_535, 65_536, MAX],
     given: &[None, Some(0), Some(1), Some(MAX)],
-    short: &[0],
+    ..NO_RECORDS
 };
 
 const ONE: Lists = Lists {
@@ -43,7 +33,7 @@ const ONE: Lists = Lists {
     starts: &[0, 1, 2, MAX],
     tops: &[0, 1],
     given: &[None, Some(0), Some(MAX)],
-    short: &[0],
+    ..NO_RECORDS
 };
 
 const TWO: Lists = Lists {
@@ -52,13 +42,10 @@ const TWO: Lists = Lists {
         ranges: &[(0, 0), (0, 1), (0, 2), (1, 2), (1, 1), (2, 1), (2, 5)],
         lasts: &[&[4, 8], &[0, 4, 6, 8, 12]],
     },
-    types: &[2],
-    repeats: &[0, 1, 2],
     bounds: &[0, 1, 2, 1_024],
-    starts: &[0, 1],
     tops: &[0, 1],
     given: &[None, Some(7)],
-    short: &[0],
+    ..TWO_TYPES
 };
 
 const THREE: Lists = Lists {
@@ -67,28 +54,13 @@ const THREE: Lists = Lists {
         ranges: &[(0, 0), (0, 1), (1, 1), (1, 2), (0, 2), (2, 1)],
         lasts: &[&[4], &[4, 8], &[4, 8, 12, 16]],
     },
-    types: &[2],
-    repeats: &[0, 1, 2],
-    bounds: &[0, 1, 1_024],
-    starts: &[0, 1],
     tops: &[1],
-    given: &[None],
-    short: &[0],
+    ..TWO_TYPES
 };
 
 const FOUR: Lists = Lists {
-    records: Records {
-        ids: &[0, 1],
-        ranges: &[(0, 1), (1, 1), (1, 2), (0, 2)],
-        lasts: &[&[4], &[4, 8], &[4, 8, 12], &[4, 8, 12, 16]],
-    },
-    types: &[2],
-    repeats: &[0, 1, 2],
-    bounds: &[0, 1, 1_024],
-    starts: &[0, 1],
-    tops: &[0],
-    given: &[None],
-    short: &[0],
+    records: FOUR_RECORDS,
+    ..TWO_TYPES
 };
 
 const ALL: [&Lists; 5] = [&NONE, &ONE, &TWO, &THREE, &FOUR];

@@ -40,6 +40,18 @@ pub struct Stuff {
     pub length: usize,
 }
 
+impl Stuff {
+    /// Any number of types and any start, with leaves of one of these lengths at most.
+    pub fn any(rng: &mut Rng, lengths: &[usize]) -> Self {
+        Self {
+            types: rng.pick(&[1, 2, 5, 300, 65_535, 65_536]),
+            start: rng.pick(&[0, 0, 1, 5, 70_000, u32::MAX - 30]),
+            gap: rng.pick(&[0, 1, 3]),
+            length: rng.pick(lengths),
+        }
+    }
+}
+
 /// A finished tree: its size in words and its range.
 #[derive(Clone, Copy)]
 struct Finished {

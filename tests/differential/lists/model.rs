@@ -26,7 +26,8 @@ pub struct Verdict {
     pub count: u32,
 }
 
-const MOST_RECORDS: usize = 1_048_576;
+/// The most records that are accepted.
+pub const MOST_RECORDS: usize = 1_048_576;
 
 pub fn refused(number: u32, place: usize) -> Verdict {
     Verdict {

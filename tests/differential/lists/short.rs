@@ -2,23 +2,13 @@
 
 use crate::lists::compare::ListSession;
 use crate::lists::model::List;
-use crate::spelling::{Lists, Records, uneven};
+use crate::spelling::{FOUR_RECORDS, Lists, NO_RECORDS, Records, TWO_TYPES, uneven};
 
 const MAX: u32 = u32::MAX;
 
 const NONE: Lists = Lists {
-    records: Records {
-        ids: &[0],
-        ranges: &[(0, 0)],
-        lasts: &[],
-    },
-    types: &[0, 1, 2, 65_535, 65_536, 65_537, MAX],
-    repeats: &[0, 1, 65_536, MAX],
-    bounds: &[0, 1, 65_534, 65_535, 65_536, MAX],
-    starts: &[0, 1, MAX],
-    tops: &[0, 1, 65_534, 65_535, 65_536, MAX],
     short: &[0, 1, 2, 96],
-    given: &[None],
+    ..NO_RECORDS
 };
 
 const ONE: Lists = Lists {
@@ -44,7 +34,7 @@ const ONE: Lists = Lists {
     starts: &[0, 1, 2, MAX],
     tops: &[0, 1, 65_535],
     short: &[0, 1],
-    given: &[None],
+    ..NO_RECORDS
 };
 
 const TWO: Lists = Lists {
@@ -53,13 +43,8 @@ const TWO: Lists = Lists {
         ranges: &[(0, 0), (0, 1), (0, 2), (1, 2), (1, 1), (2, 1)],
         lasts: &[&[0, 3, 4, 5, 8], &[0, 1, 4, 6, 8, 12, MAX]],
     },
-    types: &[2],
-    repeats: &[0, 1, 2],
-    bounds: &[0, 1, 1_024],
     starts: &[0, 1, 2, 3],
-    tops: &[0],
-    short: &[0],
-    given: &[None],
+    ..TWO_TYPES
 };
 
 const THREE: Lists = Lists {
@@ -68,13 +53,9 @@ const THREE: Lists = Lists {
         ranges: &[(0, 0), (0, 1), (1, 2), (0, 2), (2, 1)],
         lasts: &[&[4, 8], &[4, 5, 8], &[4, 8, 12, 16]],
     },
-    types: &[2],
-    repeats: &[0, 1, 2],
-    bounds: &[0, 1, 1_024],
     starts: &[0, 1, 2, 3],
     tops: &[1],
-    short: &[0],
-    given: &[None],
+    ..TWO_TYPES
 };
 
 /// Three records whose ids may be bad or whose sizes may be 0.
@@ -84,28 +65,16 @@ const THREE_BAD: Lists = Lists {
         ranges: &[(0, 1), (1, 2), (0, 2)],
         lasts: &[&[0, 4], &[0, 4, 8], &[4, 8, 12]],
     },
-    types: &[2],
     repeats: &[1, 2],
     bounds: &[0, 1_024],
-    starts: &[0, 1],
     tops: &[1],
-    short: &[0],
-    given: &[None],
+    ..TWO_TYPES
 };
 
 const FOUR: Lists = Lists {
-    records: Records {
-        ids: &[0, 1],
-        ranges: &[(0, 1), (1, 1), (1, 2), (0, 2)],
-        lasts: &[&[4], &[4, 8], &[4, 8, 12], &[4, 8, 12, 16]],
-    },
-    types: &[2],
-    repeats: &[0, 1, 2],
+    records: FOUR_RECORDS,
     bounds: &[0, 1_024],
-    starts: &[0, 1],
-    tops: &[0],
-    short: &[0],
-    given: &[None],
+    ..TWO_TYPES
 };
 
 const ALL: [&Lists; 6] = [&NONE, &ONE, &TWO, &THREE, &THREE_BAD, &FOUR];

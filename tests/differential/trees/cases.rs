@@ -2,6 +2,7 @@
 
 use crate::forests::Node;
 use crate::lists::cases::{Shape, Stuff, good_list};
+use crate::parts::cases::MOST_RECORDS;
 use crate::rng::Rng;
 use crate::trees::model::Handed;
 
@@ -26,9 +27,6 @@ pub fn any_mix(rng: &mut Rng) -> Mix {
 
 /// The end of the longest packed range.
 const LONGEST: u32 = 65_535;
-
-/// The most records of a part.
-const MOST_RECORDS: usize = 16_383;
 
 /// A tree over a random forest of so many nodes.
 pub fn good_tree(rng: &mut Rng, stuff: &Stuff, nodes: usize, shape: Shape, mix: Mix) -> Handed {
