@@ -1,4 +1,10 @@
 //! The differential driver: library, model and Rust on the same inputs.
+//!
+//! There is a driver for each of parts, lists, trees and builds: a file with its runs, and a folder with its random
+//! inputs (`cases`, `bundles`), all short ones (`short`), the comparison of one input (`compare`) with what is expected
+//! (`model`), the recorded sample (`sample`) and the times (`bench`). What several of them use is beside this file: the
+//! exported calls (`calls`), the Rust (`rezel`, `oracle`), all short inputs (`spelling`), the slices that are lent
+//! (`lent`), samples written to files (`recording`), what is printed (`report`), options and times.
 
 mod builds;
 mod calls;
@@ -13,6 +19,7 @@ mod rezel;
 mod rng;
 mod shim;
 mod spelling;
+mod timing;
 mod trees;
 
 // Shared with the comparison of the definitions.

@@ -2,13 +2,13 @@
 
 use std::hint::black_box;
 use std::process::ExitCode;
-use std::time::Instant;
 
 use crate::builds::bundles::{self, Bundle, FIRST_REPEAT, Place, TYPES};
 use crate::builds::case::{Case, Numbers};
 use crate::lists::model::{MOST_RECORDS, work_words};
 use crate::oracle::{Oracle, run_on_large_stack};
 use crate::rng::Rng;
+use crate::timing::quickest;
 use crate::tree::TreeBuild;
 use crate::trees::rust_trees;
 use crate::{TextSize, Tree, calls};
@@ -149,16 +149,6 @@ fn afresh(case: &Case, cells: usize, words: usize) {
 }
 
 /// Seconds of a call.
-fn best(mut call: impl FnMut()) -> f64 {
-    let mut least = f64::MAX;
-    let all = Instant::now();
-    for _ in 0..REPEATS {
-        let start = Instant::now();
-        call();
-        least = least.min(start.elapsed().as_secs_f64());
-        if all.elapsed().as_secs_f64() > SECONDS {
-            break;
-        }
-    }
-    least
+fn best(call: impl FnMut()) -> f64 {
+    quickest(REPEATS, SECONDS, call)
 }

@@ -2,12 +2,12 @@
 
 use std::hint::black_box;
 use std::process::ExitCode;
-use std::time::Instant;
 
 use crate::calls;
 use crate::lists::cases::{self, Shape, Stuff};
 use crate::lists::model::{List, work_words};
 use crate::rng::Rng;
+use crate::timing::quickest;
 
 /// Each figure is the best of so many repeats.
 const REPEATS: usize = 60;
@@ -73,12 +73,6 @@ fn sum(words: &[u32]) -> u32 {
 }
 
 /// Nanoseconds a record of a call.
-fn best(records: usize, mut call: impl FnMut() -> u32) -> f64 {
-    let mut least = f64::MAX;
-    for _ in 0..REPEATS {
-        let start = Instant::now();
-        black_box(call());
-        least = least.min(start.elapsed().as_nanos() as f64);
-    }
-    least / records as f64
+fn best(records: usize, call: impl FnMut() -> u32) -> f64 {
+    quickest(REPEATS, f64::MAX, call) * 1e9 / records as f64
 }

@@ -2,11 +2,11 @@
 
 use std::hint::black_box;
 use std::process::ExitCode;
-use std::time::Instant;
 
 use crate::lists::cases::{Shape, Stuff, good_list};
 use crate::oracle::{Oracle, run_on_large_stack};
 use crate::rng::Rng;
+use crate::timing::quickest;
 use crate::tree::{NodeType, TreeChild};
 use crate::trees::cases::{self, Mix};
 use crate::trees::model::{Handed, work_words};
@@ -238,14 +238,7 @@ fn walk(
     }
 }
 
-/// Nanoseconds of the quickest call; what it answers is dropped outside the time.
-fn best<A>(mut call: impl FnMut() -> A) -> f64 {
-    let mut least = f64::MAX;
-    for _ in 0..REPEATS {
-        let start = Instant::now();
-        let answer = black_box(call());
-        least = least.min(start.elapsed().as_nanos() as f64);
-        drop(answer);
-    }
-    least
+/// Nanoseconds of a call.
+fn best<A>(call: impl FnMut() -> A) -> f64 {
+    quickest(REPEATS, f64::MAX, call) * 1e9
 }
