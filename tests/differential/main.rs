@@ -57,7 +57,7 @@ struct Options {
     into: Option<PathBuf>,
 }
 
-fn options() -> Result<Options, String> {
+fn read_options() -> Result<Options, String> {
     let mut words = options::words();
     let mut all = Options {
         command: words.next().ok_or("a command is missing")?,
@@ -79,7 +79,7 @@ fn options() -> Result<Options, String> {
 
 fn main() -> ExitCode {
     rezel::silence_expected_panics();
-    match options() {
+    match read_options() {
         Ok(options) => run(&options),
         Err(text) => options::refused(&text),
     }

@@ -94,6 +94,21 @@ impl Numbers {
     }
 }
 
+/// Document 01's lists, as far as they are short.
+pub fn examples(mut visit: impl FnMut(&Case)) {
+    let plain = [1, 0, 2, 4, 2, 3, 5, 4, 3, 0, 6, 12];
+    for bound in [1_024, 5, 1] {
+        visit(&Numbers::plain(4, 4, bound).with(&plain));
+    }
+    for start in [5, 6] {
+        let numbers = Numbers::plain(4, 4, 1_024);
+        visit(&Numbers { start, ..numbers }.with(&[1, 5, 7, 4]));
+    }
+    let repeats = [1, 0, 2, 4, 2, 0, 2, 8, 1, 2, 4, 4, 2, 2, 4, 8, 2, 0, 4, 20];
+    visit(&Numbers::plain(3, 2, 2).with(&repeats));
+    visit(&Numbers::plain(4, 4, 1_024).with(&[]));
+}
+
 impl Input for Case<'_> {
     fn call(&self) -> &'static str {
         "build"

@@ -3,7 +3,7 @@
 //! Only lists on which document 01 and the Rust agree are taken: accepted and built, or refused where the Rust panics. The
 //! answers are the Rust's; the model only says whether a list is refused.
 
-use crate::builds::case::{Case, Numbers, reading};
+use crate::builds::case::{Case, Numbers, examples, reading};
 use crate::lists::cases::damaged;
 use crate::lists::model;
 use crate::oracle::Oracle;
@@ -24,22 +24,8 @@ pub struct Sample {
 impl recording::Sample for Sample {
     const LINES: &str = "lists";
 
-    /// Document 01's examples.
     fn examples(&mut self, rng: &mut Rng) {
-        let list = [1, 0, 2, 4, 2, 3, 5, 4, 3, 0, 6, 12];
-        for bound in [1_024, 5, 1] {
-            self.take(rng, &Numbers::plain(4, 4, bound).with(&list));
-        }
-        for start in [5, 6] {
-            let numbers = Numbers {
-                start,
-                ..Numbers::plain(4, 4, 1_024)
-            };
-            self.take(rng, &numbers.with(&[1, 5, 7, 4]));
-        }
-        let grouped = [1, 0, 2, 4, 2, 0, 2, 8, 1, 2, 4, 4, 2, 2, 4, 8, 2, 0, 4, 20];
-        self.take(rng, &Numbers::plain(3, 2, 2).with(&grouped));
-        self.take(rng, &Numbers::plain(4, 4, 1_024).with(&[]));
+        examples(|case| self.take(rng, case));
     }
 
     /// A random list, now and then with one thing wrong.

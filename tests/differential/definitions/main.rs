@@ -47,7 +47,7 @@ struct Options {
     repository: PathBuf,
 }
 
-fn options() -> Result<Options, String> {
+fn read_options() -> Result<Options, String> {
     let mut all = Options {
         seed: 1,
         lists: 1_000,
@@ -75,7 +75,7 @@ fn options() -> Result<Options, String> {
 
 fn main() -> ExitCode {
     rezel::silence_expected_panics();
-    match options() {
+    match read_options() {
         Ok(options) => compare(&options).unwrap_or_else(|error| {
             let text = format!("the generated repository cannot be made or proved: {error}");
             options::refused(&text)

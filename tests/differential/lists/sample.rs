@@ -3,6 +3,7 @@
 //! Only lists on which document 01 and the Rust agree are taken: accepted and built, or refused and not built. The
 //! answers are the Rust's; the model only says which kind of list it is.
 
+use crate::builds::case::examples;
 use crate::lists::cases::{self, Stuff};
 use crate::lists::model::{self, List, work_words};
 use crate::oracle::Oracle;
@@ -30,17 +31,8 @@ fn quota(number: u32, records: usize) -> usize {
 impl recording::Sample for Sample {
     const LINES: &str = "lists";
 
-    /// Document 01's own lists, as far as they are short.
     fn examples(&mut self, _: &mut Rng) {
-        let plain = [1, 0, 2, 4, 2, 3, 5, 4, 3, 0, 6, 12];
-        for bound in [1_024, 5, 1] {
-            self.take(&example(4, 4, bound, 0, &plain));
-        }
-        self.take(&example(4, 4, 1_024, 5, &[1, 5, 7, 4]));
-        self.take(&example(4, 4, 1_024, 6, &[1, 5, 7, 4]));
-        let repeats = [1, 0, 2, 4, 2, 0, 2, 8, 1, 2, 4, 4, 2, 2, 4, 8, 2, 0, 4, 20];
-        self.take(&example(3, 2, 2, 0, &repeats));
-        self.take(&example(4, 4, 1_024, 0, &[]));
+        examples(|case| self.take(&case.list));
     }
 
     /// A random list, good or damaged.
@@ -83,7 +75,7 @@ impl recording::Sample for Sample {
 }
 
 impl Sample {
-    /// Takes a list on which both agree.
+    /// Takes a list on which both agree; the program that is asked lends a work slice that is large enough.
     fn take(&mut self, list: &List) {
         let records = list.words.len() / 4;
         let number = model::check(&List {
@@ -102,18 +94,6 @@ impl Sample {
         let answer = if built { "taken" } else { "refused" };
         let most = quota(number, records);
         self.taken.take(kind, most, line(list), || answer.into());
-    }
-}
-
-fn example(types: u32, first_repeat: u32, bound: u32, start: u32, words: &[u32]) -> List<'_> {
-    List {
-        types,
-        first_repeat,
-        bound,
-        start,
-        top: 0,
-        words,
-        work: 0,
     }
 }
 
