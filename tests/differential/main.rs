@@ -43,10 +43,10 @@ use std::process::ExitCode;
 use recording::Sample;
 
 /// The crates whose programs are asked what was recorded.
-const ASKED_PARTS: &str = "crates/part_vectors";
-const ASKED_LISTS: &str = "crates/record_vectors";
-const ASKED_TREES: &str = "crates/tree_vectors";
-const ASKED_BUILDS: &str = "crates/build_vectors";
+const ASKED_PARTS: &str = "crates/replay_parts";
+const ASKED_LISTS: &str = "crates/replay_lists";
+const ASKED_TREES: &str = "crates/replay_trees";
+const ASKED_BUILDS: &str = "crates/replay_builds";
 
 struct Options {
     command: String,
