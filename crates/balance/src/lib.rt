@@ -12,6 +12,13 @@ ghost use Rattle.rules.specs.Calls.{handed-in, balance-call};
 ghost use Rattle.balance.specs.Answer.{balanced-outcome};
 ghost use Rattle.balance.specs.Steps.{Given, noted, Linked, links-noted, Based, address, Building, Standing, settled-tree, Lent};
 use balance_core::Made;
+use tree::CELL_WIDTH;
+use tree::COUNT;
+use tree::FIRST;
+use tree::ID;
+use tree::LENGTH;
+use tree::NEXT;
+use tree::POSITION;
 
 // Puts the packed words below the place `end`, from the last one back: where the first one stands.
 fn stage_words(words: &[u16], work: &mut [u32], end: u32) -> u32
@@ -46,11 +53,15 @@ fn note_links(cells: &[u32], i: usize, work: &mut [u32])
     ensures { λ _. ⌜ now (work .exit) ≡ links-noted (now (cells .entry)) (now (work .entry)) i ⌝ }
 {
     let base = work[i];
-    note(work, cells[i * 7 + 6], base);
-    if cells[i * 7] == 2 {
+    note(work, cells[i * CELL_WIDTH + NEXT], base);
+    if cells[i * CELL_WIDTH] == 2 {
         return;
     }
-    note(work, cells[i * 7 + 4], base + cells[i * 7 + 2]);
+    note(
+        work,
+        cells[i * CELL_WIDTH + FIRST],
+        base + cells[i * CELL_WIDTH + POSITION],
+    );
 }
 
 // Puts the start of each cell's parent into the first words, one for each cell.
@@ -61,7 +72,7 @@ fn note_bases(cells: &[u32], work: &mut [u32])
     ensures { λ _. ⌜ Same (now (work .entry)) (now (work .exit)) 0 0 (length (now (cells .entry)) / 7) ⌝ }
 {
     work[0] = 0;
-    let n = cells.len() / 7;
+    let n = cells.len() / CELL_WIDTH;
     let mut i: usize = 0;
     while i < n {
         note_links(cells, i, work);
@@ -87,28 +98,28 @@ fn push_cell(cells: &[u32], i: usize, high: u32, low: u32, work: &mut [u32])
     ensures { λ _. ⌜ ((ws : List ℕ) → Building (now (work .entry)) (now (cells .entry)) ws (length (now (cells .entry)) / 7) high low (i + 1) → Building (now (work .exit)) (now (cells .entry)) ws (length (now (cells .entry)) / 7) high low i) ⌝ }
 {
     let top = high - (i as u32 + 1) * 10;
-    let start = work[i] + cells[i * 7 + 2];
-    let next = node_of(high, cells[i * 7 + 6]);
-    if cells[i * 7] == 2 {
+    let start = work[i] + cells[i * CELL_WIDTH + POSITION];
+    let next = node_of(high, cells[i * CELL_WIDTH + NEXT]);
+    if cells[i * CELL_WIDTH] == 2 {
         store::push_part(
             work,
             top,
             start,
-            cells[i * 7 + 3],
-            low + cells[i * 7 + 4],
-            cells[i * 7 + 5],
+            cells[i * CELL_WIDTH + LENGTH],
+            low + cells[i * CELL_WIDTH + FIRST],
+            cells[i * CELL_WIDTH + COUNT],
             next,
         );
         return;
     }
-    let first = node_of(high, cells[i * 7 + 4]);
+    let first = node_of(high, cells[i * CELL_WIDTH + FIRST]);
     store::push_tree(
         work,
         top,
-        cells[i * 7],
-        cells[i * 7 + 1],
+        cells[i * CELL_WIDTH],
+        cells[i * CELL_WIDTH + ID],
         start,
-        cells[i * 7 + 3],
+        cells[i * CELL_WIDTH + LENGTH],
         first,
         next,
     );
@@ -119,7 +130,7 @@ fn push_cells(cells: &[u32], high: u32, low: u32, work: &mut [u32])
     requires { ⌜ ((ws : List ℕ) × Building (now work) (now cells) ws (length (now cells) / 7) high low (length (now cells) / 7)) ⌝ }
     ensures { λ _. ⌜ ((ws : List ℕ) → Building (now (work .entry)) (now (cells .entry)) ws (length (now (cells .entry)) / 7) high low (length (now (cells .entry)) / 7) → Building (now (work .exit)) (now (cells .entry)) ws (length (now (cells .entry)) / 7) high low 0) ⌝ }
 {
-    let mut i = cells.len() / 7;
+    let mut i = cells.len() / CELL_WIDTH;
     while 0 < i {
         i -= 1;
         push_cell(cells, i, high, low, work);
@@ -165,7 +176,7 @@ fn write_out(work: &mut [u32], top: u32, root: u32, out: &mut [u32], packed: &mu
 {
     let cells = words::index(store::tell(&*work, root, 6));
     let words = words::index(store::tell(&*work, root, 7));
-    if out.len() / 7 < cells {
+    if out.len() / CELL_WIDTH < cells {
         return Balanced::Refused(12, 0);
     }
     if packed.len() < words {
@@ -187,7 +198,7 @@ fn balance_accepted(
     requires { ⌜ Lent (now cells) (now words) (length (now work)) ⌝ }
     ensures { λ r. ⌜ record { outcome = balanced-outcome r; outputs = now (out .exit) ∷ now (packed .exit) ∷ [] } ≡ settled-tree (balanced (handed-in (now (cells .entry)) (now (words .entry)))) (now (out .entry)) (now (packed .entry)) ⌝ }
 {
-    let n = cells.len() / 7;
+    let n = cells.len() / CELL_WIDTH;
     let end = ((n + words.len() / 4) * 96 + 96) as u32;
     let low = stage_words(words, work, end);
     note_bases(cells, work);
@@ -220,7 +231,7 @@ pub fn balance(
     if let words::Found::At(at) = cells::tree_check(cells, words, types, 0, true, work) {
         return Balanced::Refused(15, at);
     }
-    if MOST_ITEMS < cells.len() / 7 + words.len() / 4 {
+    if MOST_ITEMS < cells.len() / CELL_WIDTH + words.len() / 4 {
         return Balanced::Refused(12, 0);
     }
     balance_accepted(cells, words, work, out, packed)

@@ -8,6 +8,7 @@ ghost use Rattle.tree.specs.Calls.{build-call};
 ghost use Rattle.take.specs.Loop.{Taken-all};
 ghost use Rattle.build.specs.Answer.{given-length, built-outcome};
 ghost use Rattle.build.specs.Building.{list-end, Listed, Writes, written-out, built};
+use tree::CELL_WIDTH;
 
 // A given length of the whole tree, or none: then it is the last child's end.
 pub enum Given {
@@ -105,7 +106,7 @@ fn write_result(
     let kids = first.kids;
     let count = words::index(store::tell(&*work, kids, 6)) + 1;
     let packed = words::index(store::tell(&*work, kids, 7));
-    if cells.len() / 7 < count {
+    if cells.len() / CELL_WIDTH < count {
         return Built::Refused(12, 0);
     }
     if words.len() < packed {

@@ -18,9 +18,13 @@ ghost use Rattle.cells.specs.Read.{cell-of};
 ghost use Rattle.cells.specs.Steps.{cell-at, Word, followed, Lengths, Last, Front, own-test, count-test, range-test, stray-test, cell-test, Given};
 ghost use Rattle.cells.specs.Open.{in-place, lowered, Read-link, Put, Pushed};
 ghost use Rattle.cells.specs.Around.{Staying, around-broken};
-
-// The words of a cell.
-const WIDTH: usize = 7;
+use tree::CELL_WIDTH;
+use tree::COUNT;
+use tree::FIRST;
+use tree::ID;
+use tree::LENGTH;
+use tree::NEXT;
+use tree::POSITION;
 
 // The largest word.
 const MOST: u32 = 4294967295;
@@ -89,7 +93,7 @@ fn chain_lengths(cells: &[u32], n: usize, work: &mut [u32])
 {
     let mut c = n;
     while 0 < c {
-        let length = follow(&*work, n, c, cells[(c - 1) * WIDTH + 6]);
+        let length = follow(&*work, n, c, cells[(c - 1) * CELL_WIDTH + NEXT]);
         work[c - 1] = length + 1;
         c -= 1;
     }
@@ -102,7 +106,7 @@ fn last_part(cells: &[u32], n: usize) -> usize
 {
     let mut last = n;
     while 0 < last {
-        if cells[(last - 1) * WIDTH] == 2 {
+        if cells[(last - 1) * CELL_WIDTH] == 2 {
             return last;
         }
         last -= 1;
@@ -223,13 +227,13 @@ fn read_cell(cells: &[u32], i: usize) -> CellWords
     ensures { λ r. ⌜ cell-of r ≡ cell-at (now (cells .entry)) i ⌝ }
 {
     CellWords {
-        kind: cells[i * WIDTH],
-        id: cells[i * WIDTH + 1],
-        position: cells[i * WIDTH + 2],
-        len: cells[i * WIDTH + 3],
-        first: cells[i * WIDTH + 4],
-        count: cells[i * WIDTH + 5],
-        next: cells[i * WIDTH + 6],
+        kind: cells[i * CELL_WIDTH],
+        id: cells[i * CELL_WIDTH + ID],
+        position: cells[i * CELL_WIDTH + POSITION],
+        len: cells[i * CELL_WIDTH + LENGTH],
+        first: cells[i * CELL_WIDTH + FIRST],
+        count: cells[i * CELL_WIDTH + COUNT],
+        next: cells[i * CELL_WIDTH + NEXT],
     }
 }
 
@@ -580,7 +584,7 @@ pub fn too_little_work(cells: &[u32], words: &[u16], work: &[u32]) -> bool
     if work.len() < 96 {
         return true;
     }
-    (work.len() - 96) / 96 < cells.len() / WIDTH + words.len() / 4
+    (work.len() - 96) / 96 < cells.len() / CELL_WIDTH + words.len() / 4
 }
 
 // The tree check, after refusals 1 and 11: the lowest cell that breaks a cell rule; 0 where the slice is empty or no multiple of
@@ -600,10 +604,10 @@ pub fn tree_check(
     if cells.len() == 0 {
         return words::Found::At(0);
     }
-    if cells.len() % WIDTH != 0 {
+    if cells.len() % CELL_WIDTH != 0 {
         return words::Found::At(0);
     }
-    let n = cells.len() / WIDTH;
+    let n = cells.len() / CELL_WIDTH;
     let last = last_part(cells, n);
     chain_lengths(cells, n, work);
     let g = Setting {

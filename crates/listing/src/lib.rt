@@ -10,6 +10,12 @@ ghost use Rattle.tree.specs.Calls.{list-cells};
 ghost use Rattle.rules.specs.Calls.{list-call};
 ghost use Rattle.listing.specs.Answer.{listed-outcome};
 ghost use Rattle.listing.specs.Steps.{is-listed, own-line, lines-from, noted, links-noted, Ready, Lent};
+use tree::CELL_WIDTH;
+use tree::FIRST;
+use tree::ID;
+use tree::LENGTH;
+use tree::NEXT;
+use tree::POSITION;
 use words::Found;
 
 // What listing answers.
@@ -25,10 +31,10 @@ fn is_listed(cells: &[u32], first_repeat: u32, i: usize) -> bool
     requires { ⌜ i * 7 + 7 ≤ length (now cells) ⌝ }
     ensures { λ r. ⌜ r ≡ is-listed «first_repeat» (now (cells .entry)) i ⌝ }
 {
-    if cells[i * 7] != 1 {
+    if cells[i * CELL_WIDTH] != 1 {
         return false;
     }
-    cells[i * 7 + 1] < first_repeat
+    cells[i * CELL_WIDTH + ID] < first_repeat
 }
 
 // How many lines the n cells have.
@@ -87,11 +93,11 @@ fn put_line(
     ensures { λ _. ⌜ now (lines .exit) ≡ put (now (lines .entry)) at (own-line «first_repeat» (now (cells .entry)) i base depth) ⌝ }
 {
     if is_listed(cells, first_repeat, i) {
-        let start = base + cells[i * 7 + 2];
+        let start = base + cells[i * CELL_WIDTH + POSITION];
         lines[at] = depth;
-        lines[at + 1] = cells[i * 7 + 1];
+        lines[at + 1] = cells[i * CELL_WIDTH + ID];
         lines[at + 2] = start;
-        lines[at + 3] = start + cells[i * 7 + 3];
+        lines[at + 3] = start + cells[i * CELL_WIDTH + LENGTH];
         return at + 4;
     }
     at
@@ -104,8 +110,13 @@ fn note_links(cells: &[u32], first_repeat: u32, i: usize, base: u32, depth: u32,
     ensures { λ _. ⌜ now (work .exit) ≡ links-noted «first_repeat» (now (cells .entry)) (now (work .entry)) i base depth ⌝ }
 {
     let inner = depth_below(depth, is_listed(cells, first_repeat, i));
-    note(work, cells[i * 7 + 6], base, depth);
-    note(work, cells[i * 7 + 4], base + cells[i * 7 + 2], inner);
+    note(work, cells[i * CELL_WIDTH + NEXT], base, depth);
+    note(
+        work,
+        cells[i * CELL_WIDTH + FIRST],
+        base + cells[i * CELL_WIDTH + POSITION],
+        inner,
+    );
 }
 
 // Writes the lines of accepted cells. Two words of `work` for each cell, noted before it is reached: the start of its parent
@@ -147,7 +158,7 @@ pub fn list(
     if 65536 < types {
         return Listed::Refused(1, 0);
     }
-    let n = cells.len() / 7;
+    let n = cells.len() / CELL_WIDTH;
     if work.len() / 96 < n + 1 {
         return Listed::Refused(11, 0);
     }

@@ -10,6 +10,13 @@ ghost use Rattle.tree.specs.Cells.{cells};
 ghost use Rattle.rules.specs.Calls.{materialise-call};
 ghost use Rattle.materialize.specs.Answer.{materialized-outcome};
 ghost use Rattle.materialize.specs.Steps.{ended, first-link, next-link, Taken, Put, Open, Moved, inner-count, Packed, Unpacked, trees-left, cells-before, Next-cell, Next-part, Next, Wrote, Ready, weight, unpacked, ahead};
+use tree::CELL_WIDTH;
+use tree::COUNT;
+use tree::FIRST;
+use tree::ID;
+use tree::LENGTH;
+use tree::NEXT;
+use tree::POSITION;
 
 // Seven words from an index on.
 fn put_cell(
@@ -44,7 +51,7 @@ fn end_links(work: &[u32], kept: usize, sp: usize, out: &mut [u32])
     if sp <= kept {
         return;
     }
-    out[words::index(work[kept]) * 7 + 6] = 0;
+    out[words::index(work[kept]) * CELL_WIDTH + NEXT] = 0;
 }
 
 // A cell's link to its first child.
@@ -90,7 +97,7 @@ fn push(
     end_links(&*work, kept, sp, out);
     put_cell(
         out,
-        cell * 7,
+        cell * CELL_WIDTH,
         kind,
         id,
         start,
@@ -121,7 +128,7 @@ fn hand_over(
         if limit <= root {
             return left;
         }
-        out[root * 7 + 2] = words::less(out[root * 7 + 2], start);
+        out[root * CELL_WIDTH + POSITION] = words::less(out[root * CELL_WIDTH + POSITION], start);
         left -= 1;
     }
     left
@@ -218,7 +225,7 @@ fn place_tree(
     requires { ⌜ Next-cell (now work) (now out) (now cells) total i cell trees marks ⌝ }
     ensures { λ r. ⌜ ((ws : List ℕ) → Wrote (now (work .entry)) (now (work .exit)) (now (out .entry)) (now (out .exit)) (now (cells .entry)) ws total i cell trees marks (r .cell) (r .trees) (r .marks)) ⌝ }
 {
-    let left = below(marks, words::index(cells[i * 7 + 5]));
+    let left = below(marks, words::index(cells[i * CELL_WIDTH + COUNT]));
     let kept = staying(&*work, total, trees, marks, left);
     push(
         work,
@@ -226,10 +233,10 @@ fn place_tree(
         trees,
         out,
         cell - 1,
-        cells[i * 7],
-        cells[i * 7 + 1],
-        cells[i * 7 + 2],
-        cells[i * 7 + 3],
+        cells[i * CELL_WIDTH],
+        cells[i * CELL_WIDTH + ID],
+        cells[i * CELL_WIDTH + POSITION],
+        cells[i * CELL_WIDTH + LENGTH],
     );
     work[total + left] = kept as u32;
     Place {
@@ -254,11 +261,18 @@ fn place_part(
     requires { ⌜ Next-part (now work) (now out) (now cells) (now words) total i cell trees marks ⌝ }
     ensures { λ r. ⌜ Wrote (now (work .entry)) (now (work .exit)) (now (out .entry)) (now (out .exit)) (now (cells .entry)) (now (words .entry)) total i cell trees marks (r .cell) (r .trees) (r .marks) ⌝ }
 {
-    let from = words::index(cells[i * 7 + 4]);
-    let count = words::index(cells[i * 7 + 5]);
+    let from = words::index(cells[i * CELL_WIDTH + FIRST]);
+    let count = words::index(cells[i * CELL_WIDTH + COUNT]);
     let part = &words[from..from + count];
     let first = cell - count / 4;
-    let top = unpack_part(part, cells[i * 7 + 2], work, trees, out, first);
+    let top = unpack_part(
+        part,
+        cells[i * CELL_WIDTH + POSITION],
+        work,
+        trees,
+        out,
+        first,
+    );
     work[total + marks] = trees as u32;
     Place {
         cell: first,
@@ -282,7 +296,7 @@ fn place_cell(
     requires { ⌜ Next (now work) (now out) (now cells) (now words) total i cell trees marks ⌝ }
     ensures { λ r. ⌜ Wrote (now (work .entry)) (now (work .exit)) (now (out .entry)) (now (out .exit)) (now (cells .entry)) (now (words .entry)) total i cell trees marks (r .cell) (r .trees) (r .marks) ⌝ }
 {
-    if cells[i * 7] == 2 {
+    if cells[i * CELL_WIDTH] == 2 {
         return place_part(cells, i, words, total, work, out, cell, trees, marks);
     }
     place_tree(cells, i, total, work, out, cell, trees, marks)
@@ -296,7 +310,7 @@ fn write_back(cells: &[u32], words: &[u16], total: usize, work: &mut [u32], out:
     let mut cell = total;
     let mut trees: usize = 0;
     let mut marks: usize = 0;
-    let mut i = cells.len() / 7;
+    let mut i = cells.len() / CELL_WIDTH;
     while 0 < i {
         i -= 1;
         let next = place_cell(cells, i, words, total, work, out, cell, trees, marks);
@@ -321,11 +335,11 @@ fn count_cells(cells: &[u32]) -> usize
     requires { ⌜ cells-before (now cells) (length (now cells) / 7) ≤ 18446744073709551615 ⌝ }
     ensures { λ r. ⌜ r ≡ cells-before (now (cells .entry)) (length (now (cells .entry)) / 7) ⌝ }
 {
-    let n = cells.len() / 7;
+    let n = cells.len() / CELL_WIDTH;
     let mut total: usize = 0;
     let mut i: usize = 0;
     while i < n {
-        total += cell_weight(cells[i * 7], cells[i * 7 + 5]);
+        total += cell_weight(cells[i * CELL_WIDTH], cells[i * CELL_WIDTH + COUNT]);
         i += 1;
     }
     total
@@ -362,7 +376,7 @@ pub fn materialize(
     if 4294967295 < total {
         return Materialized::Refused(12, 0);
     }
-    if out.len() / 7 < total {
+    if out.len() / CELL_WIDTH < total {
         return Materialized::Refused(12, 0);
     }
     write_back(cells, words, total, work, out);

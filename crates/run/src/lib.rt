@@ -5,6 +5,7 @@ ghost use lib.ListN.{length};
 ghost use Rattle.build.specs.Answer.{given-length};
 ghost use Rattle.run.specs.Running.{one-work, read-call, run-call};
 ghost use Rattle.run.specs.Answer.{read-outcome, read-calls, ran-outcome, ran-calls};
+use tree::CELL_WIDTH;
 
 // What the run answers.
 pub enum Ran {
@@ -40,7 +41,7 @@ fn read_back(
     match materialize::materialize(types, cells, words, work, trees) {
         materialize::Materialized::Refused(number, place) => Read::NotMaterialised(number, place),
         materialize::Materialized::Cells(count) => {
-            let made = &trees[..7 * count];
+            let made = &trees[..CELL_WIDTH * count];
             match listing::list(types, first_repeat, start, made, work, lines) {
                 listing::Listed::Refused(number, place) => Read::NotListed(number, place),
                 listing::Listed::Lines(written) => Read::Lines(count, written),
@@ -80,7 +81,7 @@ pub fn run(
     ) {
         build::Built::Refused(number, place) => Ran::Refused(number, place, 0),
         build::Built::Cells(count, packed) => {
-            let end = 7 * count;
+            let end = CELL_WIDTH * count;
             let built = &cells[..end];
             let parts = &words[..packed];
             match read_back(types, first_repeat, start, built, parts, work, trees, lines) {

@@ -10,6 +10,7 @@ ghost use lib.Dec.{eqb};
 ghost use mathlib.Core.Bool.{cond};
 ghost use Rattle.words.specs.Words.{put};
 ghost use Rattle.store.specs.Store.{told, liked, liked-on, word, Readable, PushedTree, PushedPart, StagedMore, tree-cell, part-cell, PartReady, PartWritten, Writable, Wrote, TopReady, TopWrote};
+use tree::CELL_WIDTH;
 
 // Ten words from an address on.
 fn put_node(
@@ -250,7 +251,7 @@ fn write_tree(work: &[u32], n: usize, from: u32, out: &mut [u32], cell: usize)
     let start = words::less(work[n + 2], from);
     put_cell(
         out,
-        cell * 7,
+        cell * CELL_WIDTH,
         work[n],
         work[n + 1],
         start,
@@ -280,7 +281,7 @@ fn write_part(
     let start = words::less(work[n + 2], from);
     put_cell(
         out,
-        cell * 7,
+        cell * CELL_WIDTH,
         2,
         0,
         start,

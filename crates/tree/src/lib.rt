@@ -1,2 +1,18 @@
-// Definitions and laws, no code.
+// Definitions and laws; in code only the width of a cell and the places of its words.
 // The build and the tree calls: definitions in specs/, their laws and the two-run theorem in proofs/.
+
+// How many words a cell has.
+pub const CELL_WIDTH: usize = 7;
+
+// The places of a cell's words behind the first, which is its kind.
+pub const ID: usize = 1;
+
+pub const POSITION: usize = 2;
+
+pub const LENGTH: usize = 3;
+
+pub const FIRST: usize = 4;
+
+pub const COUNT: usize = 5;
+
+pub const NEXT: usize = 6;
