@@ -1,19 +1,24 @@
 // The command line: reads a record list as a text (docs/FORMAT.md), builds its tree and shows it.
+mod input;
 mod messages;
 mod options;
 mod outline;
+mod output;
 mod reading;
 mod rooms;
+mod tables;
 
 ghost use mathlib.Core.Path.{_≡_};
 ghost use Prim.Native.Nat.{_≤_, _<_};
 ghost use lib.ListN.{length};
+ghost use Rattle.io.specs.Counts.{Counts};
 use build::Built;
 use build::Given;
 use listing::Listed;
 use materialize::Materialized;
-use messages::print_number;
 use options::Options;
+use output::put;
+use output::put_number;
 
 // The numbers that are given with a list.
 struct Numbers {
@@ -57,98 +62,68 @@ fn given_of(settings: &[u64]) -> Given
     Given::Last
 }
 
-// How many words so many cells have, as far as the slice has room for them.
-fn cell_words(count: usize, room: usize) -> usize
-    ensures { λ r. ⌜ r ≤ room ⌝ }
+// How many words so many cells have, as far as the slice goes.
+fn cell_words(count: usize, cells: &[u32]) -> usize
+    ensures { λ r. ⌜ Counts r (now (cells .entry)) ⌝ }
 {
-    if room / 7 < count {
-        return room;
+    if cells.len() / 7 < count {
+        return cells.len();
     }
     count * 7
 }
 
 // The same of lines.
-fn line_words(count: usize, room: usize) -> usize
-    ensures { λ r. ⌜ r ≤ room ⌝ }
+fn line_words(count: usize, lines: &[u32]) -> usize
+    ensures { λ r. ⌜ Counts r (now (lines .entry)) ⌝ }
 {
-    if room / 4 < count {
-        return room;
+    if lines.len() / 4 < count {
+        return lines.len();
     }
     count * 4
 }
 
 // The same of packed words.
-fn packed_words(count: usize, room: usize) -> usize
-    ensures { λ r. ⌜ r ≤ room ⌝ }
+fn packed_words(count: usize, words: &[u16]) -> usize
+    ensures { λ r. ⌜ Counts r (now (words .entry)) ⌝ }
 {
-    if room < count {
-        return room;
+    if words.len() < count {
+        return words.len();
     }
     count
 }
 
-fn wide(word: u32) -> u64 {
-    word as u64
-}
-
-fn wider(word: u16) -> u64 {
-    word as u64
-}
-
-// The cells, one a line, each with its number.
-fn print_cells(cells: &[u32]) {
-    text::print(b"cells: kind id position length first count next\n");
-    let mut i: usize = 0;
-    while i < cells.len() {
-        if i % 7 == 0 {
-            print_number(b" ", (i / 7 + 1) as u64);
-            text::print(b":");
-        }
-        print_number(b" ", wide(cells[i]));
-        if i % 7 == 6 {
-            text::print(b"\n");
-        }
-        i += 1;
-    }
-}
-
-// The packed words, a record's four a line, each with its offset.
-fn print_words(words: &[u16]) {
-    text::print(b"words: id start end end-index\n");
-    let mut i: usize = 0;
-    while i < words.len() {
-        if i % 4 == 0 {
-            print_number(b" ", i as u64);
-            text::print(b":");
-        }
-        print_number(b" ", wider(words[i]));
-        if i % 4 == 3 {
-            text::print(b"\n");
-        }
-        i += 1;
-    }
-}
-
-// The lines of a listing: depth, id with its name, start, end.
-fn print_lines(names: &[u8], lines: &[u32])
-    requires { ⌜ 32768 ≡ length (now names) ⌝ }
+// How many records are ordinary: 1 for an id below the first repeat id.
+fn below(id: u32, first_repeat: u32) -> usize
+    ensures { λ r. ⌜ r ≤ 1 ⌝ }
 {
-    text::print(b"listing: depth id start end\n");
-    let count = lines.len() / 4;
+    if id < first_repeat {
+        return 1;
+    }
+    0
+}
+
+// How many records of a list are ordinary.
+fn ordinary(records: &[u32], first_repeat: u32) -> usize {
+    let count = records.len() / 4;
+    let mut found: usize = 0;
     let mut i: usize = 0;
     while i < count {
-        print_number(b" ", wide(lines[i * 4]));
-        text::print(b" ");
-        outline::print_id(names, lines[i * 4 + 1]);
-        print_number(b" ", wide(lines[i * 4 + 2]));
-        print_number(b" ", wide(lines[i * 4 + 3]));
-        text::print(b"\n");
+        found += below(records[i * 4], first_repeat);
         i += 1;
     }
+    found
 }
 
-// Lists a tree without packed parts.
-fn show_list(text: &[u8], names: &[u8], numbers: Numbers, cells: &[u32], work: &mut [u32])
+// Lists a tree without packed parts, and says how many of the ordinary records of its list are missing.
+fn show_list(
+    page: &mut [u8],
+    used: &mut usize,
+    names: &[u8],
+    numbers: Numbers,
+    records: &[u32],
+    cells: &[u32],
+    work: &mut [u32],
+)
     requires { ⌜ 32768 ≡ length (now names) ⌝ }
 {
     let mut lines = rooms::records();
@@ -162,18 +137,21 @@ fn show_list(text: &[u8], names: &[u8], numbers: Numbers, cells: &[u32], work: &
     );
     match answer {
         Listed::Lines(count) => {
-            let end = line_words(count, lines.len());
-            print_lines(names, &lines[..end]);
+            let end = line_words(count, &lines);
+            tables::print_lines(page, used, names, &lines[..end]);
+            messages::print_missing(page, used, ordinary(records, numbers.first_repeat), count);
         }
-        Listed::Refused(number, place) => messages::print_refusal(number, place, text),
+        Listed::Refused(number, _) => messages::print_refused(page, used, number),
     }
 }
 
 // Lists a tree: its packed records become trees first.
 fn show_tree_list(
-    text: &[u8],
+    page: &mut [u8],
+    used: &mut usize,
     names: &[u8],
     numbers: Numbers,
+    records: &[u32],
     cells: &[u32],
     words: &[u16],
     work: &mut [u32],
@@ -184,22 +162,41 @@ fn show_tree_list(
     let answer = materialize::materialize(numbers.types, cells, words, work, &mut out);
     match answer {
         Materialized::Cells(count) => {
-            let end = cell_words(count, out.len());
-            show_list(text, names, numbers, &out[..end], work);
+            let end = cell_words(count, &out);
+            show_list(page, used, names, numbers, records, &out[..end], work);
         }
-        Materialized::Refused(number, place) => messages::print_refusal(number, place, text),
+        Materialized::Refused(number, _) => messages::print_refused(page, used, number),
     }
 }
 
-// The outline of a tree.
-fn show_outline(names: &[u8], numbers: Numbers, cells: &[u32], words: &[u16], work: &mut [u32])
+// How many records were accepted, and how large their tree is.
+fn print_sizes(page: &mut [u8], used: &mut usize, records: usize, cells: usize, words: usize) {
+    put_number(page, used, b"accepted: records ", records as u64);
+    put_number(page, used, b", cells ", cells as u64);
+    put_number(page, used, b", packed words ", words as u64);
+    put(page, used, b"\ntree: id range\n");
+}
+
+// The sizes and the outline of a tree.
+fn show_outline(
+    page: &mut [u8],
+    used: &mut usize,
+    names: &[u8],
+    numbers: Numbers,
+    records: usize,
+    cells: &[u32],
+    words: &[u16],
+    work: &mut [u32],
+)
     requires { ⌜ 32768 ≡ length (now names) ⌝ }
     requires { ⌜ length (now cells) ≤ length (now work) ⌝ }
     requires { ⌜ length (now words) ≤ 16384 ⌝ }
 {
     let mut ends = rooms::words();
-    text::print(b"tree: id range\n");
+    print_sizes(page, used, records, cells.len() / 7, words.len());
     outline::print_tree(
+        page,
+        used,
         names,
         numbers.first_repeat,
         numbers.start,
@@ -210,12 +207,28 @@ fn show_outline(names: &[u8], numbers: Numbers, cells: &[u32], words: &[u16], wo
     );
 }
 
+// The cells, where they are asked for.
+fn show_cells(page: &mut [u8], used: &mut usize, options: Options, cells: &[u32]) {
+    if options.cells {
+        tables::print_cells(page, used, cells);
+    }
+}
+
+// The packed words, where they are asked for.
+fn show_words(page: &mut [u8], used: &mut usize, options: Options, words: &[u16]) {
+    if options.words {
+        tables::print_words(page, used, words);
+    }
+}
+
 // Shows a tree, with its cells and words where they are asked for.
 fn show_tree(
-    text: &[u8],
+    page: &mut [u8],
+    used: &mut usize,
     names: &[u8],
     numbers: Numbers,
     options: Options,
+    records: &[u32],
     cells: &[u32],
     words: &[u16],
     work: &mut [u32],
@@ -224,29 +237,72 @@ fn show_tree(
     requires { ⌜ length (now cells) ≤ length (now work) ⌝ }
     requires { ⌜ length (now words) ≤ 16384 ⌝ }
 {
-    print_number(b", cells ", (cells.len() / 7) as u64);
-    print_number(b", packed words ", words.len() as u64);
-    text::print(b"\n");
-    show_outline(names, numbers, cells, words, work);
-    if options.cells {
-        print_cells(cells);
-    }
-    if options.words {
-        print_words(words);
-    }
-    show_tree_list(text, names, numbers, cells, words, work);
+    show_outline(
+        page,
+        used,
+        names,
+        numbers,
+        records.len() / 4,
+        cells,
+        words,
+        work,
+    );
+    show_cells(page, used, options, cells);
+    show_words(page, used, options, words);
+    show_tree_list(page, used, names, numbers, records, cells, words, work);
 }
 
-// Builds the tree of a list, and shows it or says why the list is refused.
-fn build_list(text: &[u8], names: &[u8], settings: &[u64], records: &[u32], options: Options)
+// Shows the tree that is in the first cells and packed words, so many of each.
+fn show_front(
+    page: &mut [u8],
+    used: &mut usize,
+    names: &[u8],
+    numbers: Numbers,
+    options: Options,
+    records: &[u32],
+    cells: &[u32],
+    count: usize,
+    words: &[u16],
+    packed: usize,
+    work: &mut [u32],
+)
     requires { ⌜ 32768 ≡ length (now names) ⌝ }
-    requires { ⌜ 6 ≡ length (now settings) ⌝ }
+    requires { ⌜ length (now cells) ≤ length (now work) ⌝ }
+    requires { ⌜ length (now words) ≤ 16384 ⌝ }
 {
-    let numbers = numbers_of(settings);
-    let given = given_of(settings);
-    let mut work = rooms::work();
-    let mut cells = rooms::cells();
-    let mut words = rooms::words();
+    let end = cell_words(count, cells);
+    let last = packed_words(packed, words);
+    show_tree(
+        page,
+        used,
+        names,
+        numbers,
+        options,
+        records,
+        &cells[..end],
+        &words[..last],
+        work,
+    );
+}
+
+// Builds the tree of a list in the rooms that are lent, and shows it or says why the list is refused.
+fn build_within(
+    page: &mut [u8],
+    used: &mut usize,
+    text: &[u8],
+    names: &[u8],
+    numbers: Numbers,
+    given: Given,
+    records: &[u32],
+    options: Options,
+    work: &mut [u32],
+    cells: &mut [u32],
+    words: &mut [u16],
+)
+    requires { ⌜ 32768 ≡ length (now names) ⌝ }
+    requires { ⌜ length (now cells) ≤ length (now work) ⌝ }
+    requires { ⌜ length (now words) ≤ 16384 ⌝ }
+{
     let answer = build::build(
         numbers.types,
         numbers.first_repeat,
@@ -255,31 +311,63 @@ fn build_list(text: &[u8], names: &[u8], settings: &[u64], records: &[u32], opti
         numbers.top,
         given,
         records,
+        work,
+        cells,
+        words,
+    );
+    match answer {
+        Built::Cells(count, packed) => show_front(
+            page,
+            used,
+            names,
+            numbers,
+            options,
+            records,
+            cells,
+            count,
+            words,
+            packed,
+            work,
+        ),
+        Built::Refused(number, place) => messages::print_refusal(page, used, number, place, text),
+    }
+}
+
+// Builds the tree of a list.
+fn build_list(
+    page: &mut [u8],
+    used: &mut usize,
+    text: &[u8],
+    names: &[u8],
+    settings: &[u64],
+    records: &[u32],
+    options: Options,
+)
+    requires { ⌜ 32768 ≡ length (now names) ⌝ }
+    requires { ⌜ 6 ≡ length (now settings) ⌝ }
+{
+    let numbers = numbers_of(settings);
+    let given = given_of(settings);
+    let mut work = rooms::work();
+    let mut cells = rooms::cells();
+    let mut words = rooms::words();
+    build_within(
+        page,
+        used,
+        text,
+        names,
+        numbers,
+        given,
+        records,
+        options,
         &mut work,
         &mut cells,
         &mut words,
     );
-    match answer {
-        Built::Cells(count, packed) => {
-            let end = cell_words(count, cells.len());
-            let last = packed_words(packed, words.len());
-            print_number(b"accepted: records ", (records.len() / 4) as u64);
-            show_tree(
-                text,
-                names,
-                numbers,
-                options,
-                &cells[..end],
-                &words[..last],
-                &mut work,
-            );
-        }
-        Built::Refused(number, place) => messages::print_refusal(number, place, text),
-    }
 }
 
 // Reads the list of a text, and builds it or says what is wrong with the text.
-fn run(text: &[u8], options: Options) {
+fn run(page: &mut [u8], used: &mut usize, text: &[u8], options: Options) {
     let mut settings = [reading::UNSET; 6];
     let mut names = rooms::names();
     let mut records = rooms::records();
@@ -287,33 +375,68 @@ fn run(text: &[u8], options: Options) {
     let problem = read.problem;
     let held = read.held;
     if !reading::is_fine(problem) {
-        messages::print_problem(problem, read.line);
+        messages::print_problem(page, used, problem, read.line);
         return;
     }
     if settings[reading::TYPES] == reading::UNSET {
-        text::print(b"the text has no line 'types N', the number of types\n");
+        put(
+            page,
+            used,
+            b"the text has no line 'types N', the number of types\n",
+        );
         return;
     }
-    build_list(text, &names, &settings, &records[..held], options);
+    build_list(
+        page,
+        used,
+        text,
+        &names,
+        &settings,
+        &records[..held],
+        options,
+    );
 }
 
-fn main() {
-    let options = options::asked();
-    if options.bad != 0 {
-        text::print(b"usage: hulwyth [--cells] [--words] [FILE]\n");
-        return;
-    }
-    let from = options::descriptor(options.file);
+// Reads the text that is asked for, and shows what is made of it or says why it cannot be read.
+fn read(page: &mut [u8], used: &mut usize, options: Options) {
+    let from = input::descriptor(page, used, options.file);
     if from < 0 {
         return;
     }
-    let mut input = text::input_room();
-    let count = io::read_full(from, &mut input);
-    if count == input.len() {
-        text::print(
+    let mut room = text::input_room();
+    let text = input::read_all(from, &mut room);
+    let count = text.count;
+    if text.failed {
+        input::print_unread(page, used, options.file);
+        return;
+    }
+    if count == room.len() {
+        put(
+            page,
+            used,
             b"the text is longer than 1048575 bytes, which is all that this program takes\n",
         );
         return;
     }
-    run(&input[..count], options);
+    run(page, used, &room[..count], options);
+}
+
+// Does what the arguments ask for, or says which of them means nothing.
+fn answer(page: &mut [u8], used: &mut usize, options: Options) {
+    if options.help {
+        messages::print_help(page, used);
+        return;
+    }
+    if options.bad != 0 {
+        options::print_bad(page, used, options.bad);
+        return;
+    }
+    read(page, used, options);
+}
+
+fn main() {
+    let mut page = io::large_buffer();
+    let mut used: usize = 0;
+    answer(&mut page, &mut used, options::asked());
+    output::flush(&mut page, &mut used);
 }

@@ -1,14 +1,45 @@
 // The arguments that the program is started with.
+use crate::output::put;
+use crate::output::put_number;
 
 // What they ask for.
 pub struct Options {
+    // The usage, and nothing else.
+    pub help: bool,
     // The cells and the packed words, too.
     pub cells: bool,
     pub words: bool,
     // The number of the argument that names the file, or 0: the text comes from standard input.
     pub file: usize,
-    // The number of the last argument that means nothing, or 0.
+    // The number of the first argument that means nothing, or 0.
     pub bad: usize,
+}
+
+// Is it written as an option? A - alone is standard input.
+fn is_option(word: &[u8]) -> bool {
+    if word.len() < 2 {
+        return false;
+    }
+    word[0] == b'-'
+}
+
+// Argument i means nothing.
+fn with_bad(so_far: Options, i: usize) -> Options {
+    let mut options = so_far;
+    if options.bad == 0 {
+        options.bad = i;
+    }
+    options
+}
+
+// Argument i names the file, if none before it does.
+fn with_file(so_far: Options, i: usize) -> Options {
+    if so_far.file != 0 {
+        return with_bad(so_far, i);
+    }
+    let mut options = so_far;
+    options.file = i;
+    options
 }
 
 // What argument i adds, by its text.
@@ -22,12 +53,18 @@ fn with_word(so_far: Options, word: &[u8], i: usize) -> Options {
         options.words = true;
         return options;
     }
-    if options.file != 0 {
-        options.bad = i;
+    if check::same(word, b"--help") {
+        options.help = true;
         return options;
     }
-    options.file = i;
-    options
+    if check::same(word, b"-h") {
+        options.help = true;
+        return options;
+    }
+    if is_option(word) {
+        return with_bad(so_far, i);
+    }
+    with_file(so_far, i)
 }
 
 // What argument i adds. One that no path has the length of means nothing.
@@ -35,9 +72,7 @@ fn with_argument(so_far: Options, i: usize) -> Options {
     let mut word = io::buffer();
     let count = os::arg(i, &mut word);
     if os::errno() != 0 {
-        let mut options = so_far;
-        options.bad = i;
-        return options;
+        return with_bad(so_far, i);
     }
     with_word(so_far, &word[..count], i)
 }
@@ -45,6 +80,7 @@ fn with_argument(so_far: Options, i: usize) -> Options {
 // What all arguments ask for.
 pub fn asked() -> Options {
     let mut options = Options {
+        help: false,
         cells: false,
         words: false,
         file: 0,
@@ -59,19 +95,25 @@ pub fn asked() -> Options {
     options
 }
 
-// The descriptor of what argument `file` names, or of standard input where it is 0; -1, after a message, where it cannot
-// be opened.
-pub fn descriptor(file: usize) -> i32 {
-    if file == 0 {
-        return libc::STDIN_FILENO;
+// Says what is wrong with a word that is no argument.
+fn print_wrong(page: &mut [u8], used: &mut usize, word: &[u8]) {
+    if is_option(word) {
+        put(page, used, b"unknown option ");
+        return;
     }
-    let mut path = io::buffer();
-    let count = os::arg(file, &mut path);
-    let opened = os::open_read(&path[..count]);
-    if opened < 0 {
-        text::print(b"cannot open the file ");
-        text::print(&path[..count]);
-        text::print(b"\n");
+    put(page, used, b"one file is read, and this is another: ");
+}
+
+// Says why argument i means nothing.
+pub fn print_bad(page: &mut [u8], used: &mut usize, i: usize) {
+    let mut word = io::buffer();
+    let count = os::arg(i, &mut word);
+    if os::errno() != 0 {
+        put_number(page, used, b"argument ", i as u64);
+        put(page, used, b" is longer than any path\n");
+        return;
     }
-    opened
+    print_wrong(page, used, &word[..count]);
+    put(page, used, &word[..count]);
+    put(page, used, b"; hulwyth --help shows what can be given\n");
 }

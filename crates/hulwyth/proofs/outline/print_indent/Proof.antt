@@ -1,14 +1,16 @@
 -- `hulwyth::outline::print_indent` is safe and ends: each turn writes one step. Assumes nothing.
 use borrow.Author.Needs.{needs}
+use mathlib.Core.Path.{_≡_}
 use Prim.Native.Nat.{_-_}
+use lib.ListN.{length}
 use Rattle.hulwyth.proofs.outline.print_indent.Statement.{statement}
 use Rattle.hulwyth.proofs.outline.print_indent.Tie as tie
 
 abbrev Inv-loop : tie.InvT-loop
-Inv-loop depth i₀ t3 i = Unit {0}
+Inv-loop page₀ used₀ depth i₀ t5 page used i = length page ≡ length page₀
 
 abbrev μ-loop : tie.MeasureT-loop
-μ-loop depth i₀ t3 i = depth - i
+μ-loop page₀ used₀ depth i₀ t5 page used i = depth - i
 
 pub print-indent-spec : {M : Type 1} → statement M
 print-indent-spec =
@@ -19,6 +21,7 @@ print-indent-spec =
     (λ c. search needs)
     (λ c. search needs)
     (λ c κs. search needs)
+    (λ c. search needs)
     (λ c. search needs)
     (λ c. search needs)
     (λ c. search needs)

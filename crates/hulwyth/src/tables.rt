@@ -1,0 +1,96 @@
+// The words of a tree and of its listing, as tables.
+ghost use mathlib.Core.Path.{_≡_};
+ghost use Prim.Native.Nat.{_+_, _≤_};
+ghost use lib.ListN.{length};
+use crate::outline::print_id;
+use crate::output::put;
+use crate::output::put_number;
+
+fn wide(word: u32) -> u64 {
+    word as u64
+}
+
+fn wider(word: u16) -> u64 {
+    word as u64
+}
+
+// The words of a cell.
+fn print_row(page: &mut [u8], used: &mut usize, row: &[u32]) {
+    let mut i: usize = 0;
+    while i < row.len() {
+        put_number(page, used, b" ", wide(row[i]));
+        i += 1;
+    }
+    put(page, used, b"\n");
+}
+
+// The cells, one a line, each with its number.
+pub fn print_cells(page: &mut [u8], used: &mut usize, cells: &[u32]) {
+    put(
+        page,
+        used,
+        b"cells: kind id position length first count next\n",
+    );
+    let count = cells.len() / 7;
+    let mut i: usize = 0;
+    while i < count {
+        put_number(page, used, b" ", (i + 1) as u64);
+        put(page, used, b":");
+        print_row(page, used, &cells[i * 7..i * 7 + 7]);
+        i += 1;
+    }
+}
+
+// The words of a packed record.
+fn print_packed(page: &mut [u8], used: &mut usize, row: &[u16]) {
+    let mut i: usize = 0;
+    while i < row.len() {
+        put_number(page, used, b" ", wider(row[i]));
+        i += 1;
+    }
+    put(page, used, b"\n");
+}
+
+// The packed words, a record's four a line, each with its offset.
+pub fn print_words(page: &mut [u8], used: &mut usize, words: &[u16]) {
+    put(page, used, b"words: id start end end-index\n");
+    let count = words.len() / 4;
+    let mut i: usize = 0;
+    while i < count {
+        put_number(page, used, b" ", (i * 4) as u64);
+        put(page, used, b":");
+        print_packed(page, used, &words[i * 4..i * 4 + 4]);
+        i += 1;
+    }
+}
+
+// Where a node of a listing starts and ends.
+fn print_bounds(page: &mut [u8], used: &mut usize, start: u32, end: u32) {
+    put_number(page, used, b" ", start as u64);
+    put_number(page, used, b" ", end as u64);
+    put(page, used, b"\n");
+}
+
+// A line of a listing: depth, id with its name, start, end.
+fn print_line(page: &mut [u8], used: &mut usize, names: &[u8], lines: &[u32], at: usize)
+    requires { ⌜ 32768 ≡ length (now names) ⌝ }
+    requires { ⌜ at + 4 ≤ length (now lines) ⌝ }
+{
+    put_number(page, used, b" ", wide(lines[at]));
+    put(page, used, b" ");
+    print_id(page, used, names, lines[at + 1]);
+    print_bounds(page, used, lines[at + 2], lines[at + 3]);
+}
+
+// The lines of a listing.
+pub fn print_lines(page: &mut [u8], used: &mut usize, names: &[u8], lines: &[u32])
+    requires { ⌜ 32768 ≡ length (now names) ⌝ }
+{
+    put(page, used, b"listing: depth id start end\n");
+    let count = lines.len() / 4;
+    let mut i: usize = 0;
+    while i < count {
+        print_line(page, used, names, lines, i * 4);
+        i += 1;
+    }
+}
