@@ -1,13 +1,40 @@
 // What is said of a text at fault, and of a refusal.
 use crate::output::put;
 use crate::output::put_number;
-use crate::reading::Problem;
+use crate::problem::Problem;
+
+// What is wrong with a name.
+fn print_name_problem(page: &mut [u8], used: &mut usize, problem: Problem) {
+    match problem {
+        Problem::NoName => put(page, used, b": the name is missing\n"),
+        Problem::LongName => put(page, used, b": the name is longer than 32 bytes\n"),
+        Problem::HighId => put(page, used, b": only the ids 0 to 1023 can have a name\n"),
+        _ => put(page, used, b": nothing is wrong\n"),
+    }
+}
+
+// What is wrong with a line that starts with a word, or with a record more than there is room for.
+fn print_word_problem(page: &mut [u8], used: &mut usize, problem: Problem) {
+    match problem {
+        Problem::Unknown => put(
+            page,
+            used,
+            b": unknown word; a line starts with a number, types, first-repeat, bound, start, top, length or name\n",
+        ),
+        Problem::Twice => put(page, used, b": this is already given in a line above\n"),
+        Problem::Full => put(
+            page,
+            used,
+            b": more than 4096 records, which is all that this program takes\n",
+        ),
+        _ => print_name_problem(page, used, problem),
+    }
+}
 
 // What is wrong with a line.
 pub fn print_problem(page: &mut [u8], used: &mut usize, problem: Problem, line: usize) {
     put_number(page, used, b"line ", line as u64);
     match problem {
-        Problem::Nothing => put(page, used, b": nothing is wrong\n"),
         Problem::Missing => put(page, used, b": a number is missing\n"),
         Problem::NoNumber => put(
             page,
@@ -20,33 +47,13 @@ pub fn print_problem(page: &mut [u8], used: &mut usize, problem: Problem, line: 
             b": a number is above 4294967295, the largest of 32 bits\n",
         ),
         Problem::More => put(page, used, b": more words than the line can have\n"),
-        Problem::Unknown => put(
-            page,
-            used,
-            b": unknown word; a line starts with a number, types, first-repeat, bound, start, top, length or name\n",
-        ),
-        Problem::Twice => put(page, used, b": this is already given in a line above\n"),
-        Problem::NoName => put(page, used, b": the name is missing\n"),
-        Problem::LongName => put(page, used, b": the name is longer than 32 bytes\n"),
-        Problem::HighId => put(page, used, b": only the ids 0 to 1023 can have a name\n"),
-        Problem::Full => put(
-            page,
-            used,
-            b": more than 4096 records, which is all that this program takes\n",
-        ),
+        _ => print_word_problem(page, used, problem),
     }
 }
 
-// What a refusal means that names no place, or a cell.
-fn print_other(page: &mut [u8], used: &mut usize, number: u32) {
+// What a refusal means that is due to the room that this program has.
+fn print_little_room(page: &mut [u8], used: &mut usize, number: u32) {
     match number {
-        1 => put(page, used, b": there are more than 65536 types\n"),
-        2 => put(page, used, b": the bound is above 65535\n"),
-        3 => put(
-            page,
-            used,
-            b": the top's id is not below the number of types\n",
-        ),
         11 => put(
             page,
             used,
@@ -68,6 +75,20 @@ fn print_other(page: &mut [u8], used: &mut usize, number: u32) {
             b": the listing has more lines than this program has room for\n",
         ),
         _ => put(page, used, b": see the table of refusals in README.md\n"),
+    }
+}
+
+// What a refusal means that names no place, or a cell.
+fn print_other(page: &mut [u8], used: &mut usize, number: u32) {
+    match number {
+        1 => put(page, used, b": there are more than 65536 types\n"),
+        2 => put(page, used, b": the bound is above 65535\n"),
+        3 => put(
+            page,
+            used,
+            b": the top's id is not below the number of types\n",
+        ),
+        _ => print_little_room(page, used, number),
     }
 }
 

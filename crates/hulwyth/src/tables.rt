@@ -2,7 +2,7 @@
 ghost use mathlib.Core.Path.{_≡_};
 ghost use Prim.Native.Nat.{_+_, _≤_};
 ghost use lib.ListN.{length};
-use crate::outline::print_id;
+use crate::names::print_id;
 use crate::output::put;
 use crate::output::put_number;
 

@@ -1,8 +1,8 @@
--- `hulwyth::outline::name_end` meets its contract. The invariant: the place is between the first and the limit. Assumes nothing.
+-- `hulwyth::names::name_end` meets its contract. The invariant: the place is between the first and the limit. Assumes nothing.
 use borrow.Author.Needs.{needs}
 use Prim.Native.Nat.{_-_, _≤_}
-use Rattle.hulwyth.proofs.outline.name_end.Statement.{statement}
-use Rattle.hulwyth.proofs.outline.name_end.Tie as tie
+use Rattle.hulwyth.proofs.names.name_end.Statement.{statement}
+use Rattle.hulwyth.proofs.names.name_end.Tie as tie
 
 abbrev Inv-loop : tie.InvT-loop
 Inv-loop names from limit at₀ at = (from ≤ at) × (at ≤ limit)

@@ -1,10 +1,10 @@
--- `hulwyth::outline::print_indent` is safe and ends: each turn writes one step. Assumes nothing.
+-- `hulwyth::packed::print_indent` is safe and ends: each turn writes one step. Assumes nothing.
 use borrow.Author.Needs.{needs}
 use mathlib.Core.Path.{_≡_}
 use Prim.Native.Nat.{_-_}
 use lib.ListN.{length}
-use Rattle.hulwyth.proofs.outline.print_indent.Statement.{statement}
-use Rattle.hulwyth.proofs.outline.print_indent.Tie as tie
+use Rattle.hulwyth.proofs.packed.print_indent.Statement.{statement}
+use Rattle.hulwyth.proofs.packed.print_indent.Tie as tie
 
 abbrev Inv-loop : tie.InvT-loop
 Inv-loop page₀ used₀ depth i₀ t5 page used i = length page ≡ length page₀

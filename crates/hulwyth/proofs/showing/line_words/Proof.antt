@@ -1,9 +1,9 @@
--- `hulwyth::line_words` meets its contract: so many words are in the slice. Assumes nothing.
+-- `hulwyth::showing::line_words` meets its contract: so many words are in the slice. Assumes nothing.
 use borrow.Author.Needs.{needs}
 use native.Mathlib.Omega.{arith}
 use Rattle.io.proofs.Counting.{counts}
-use Rattle.hulwyth.proofs.line_words.Statement.{statement}
-use Rattle.hulwyth.proofs.line_words.Tie as tie
+use Rattle.hulwyth.proofs.showing.line_words.Statement.{statement}
+use Rattle.hulwyth.proofs.showing.line_words.Tie as tie
 
 returns : tie.Need-returns
 returns c = counts _ _ (omega arith)

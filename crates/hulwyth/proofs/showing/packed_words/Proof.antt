@@ -1,8 +1,8 @@
--- `hulwyth::packed_words` meets its contract: so many words are in the slice. Assumes nothing.
+-- `hulwyth::showing::packed_words` meets its contract: so many words are in the slice. Assumes nothing.
 use native.Mathlib.Omega.{arith}
 use Rattle.io.proofs.Counting.{counts}
-use Rattle.hulwyth.proofs.packed_words.Statement.{statement}
-use Rattle.hulwyth.proofs.packed_words.Tie as tie
+use Rattle.hulwyth.proofs.showing.packed_words.Statement.{statement}
+use Rattle.hulwyth.proofs.showing.packed_words.Tie as tie
 
 returns : tie.Need-returns
 returns c = counts _ _ (omega arith)

@@ -1,10 +1,10 @@
--- `hulwyth::run` is safe: no more records are handed on than were read. Assumes nothing.
+-- `hulwyth::building::run` is safe: no more records are handed on than were read. Assumes nothing.
 use borrow.Author.Needs.{needs}
 use mathlib.Core.Path.{sym}
 use native.Mathlib.Omega.{arith}
 use lib.Seq.{length-take-le}
-use Rattle.hulwyth.proofs.run.Statement.{statement}
-use Rattle.hulwyth.proofs.run.Tie as tie
+use Rattle.hulwyth.proofs.building.run.Statement.{statement}
+use Rattle.hulwyth.proofs.building.run.Tie as tie
 
 slice-aggregate-build-list-3 : tie.Need-slice-aggregate-build-list-3
 slice-aggregate-build-list-3 c = sym (length-take-le _ _ (omega arith))

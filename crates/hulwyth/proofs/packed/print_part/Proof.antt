@@ -1,10 +1,10 @@
--- `hulwyth::outline::print_part` is safe and ends. The invariant: no more ends are held than records were taken. Assumes nothing.
+-- `hulwyth::packed::print_part` is safe and ends. The invariant: no more ends are held than records were taken. Assumes nothing.
 use borrow.Author.Needs.{needs}
 use mathlib.Core.Path.{_≡_}
 use Prim.Native.Nat.{_-_, _≤_, _/_}
 use lib.ListN.{length}
-use Rattle.hulwyth.proofs.outline.print_part.Statement.{statement}
-use Rattle.hulwyth.proofs.outline.print_part.Tie as tie
+use Rattle.hulwyth.proofs.packed.print_part.Statement.{statement}
+use Rattle.hulwyth.proofs.packed.print_part.Tie as tie
 
 abbrev Inv-loop : tie.InvT-loop
 Inv-loop page₀ used₀ names part start depth ends₀ count held₀ i₀ page used ends held i = (held ≤ i) × (i ≤ count) × (count ≡ length part / 4) × (length page ≡ length page₀) × (length ends ≡ length ends₀)

@@ -1,11 +1,11 @@
--- `hulwyth::reading::read_numbers` is safe and ends. The invariant: place and count are in range, `out` is as long. Assumes nothing.
+-- `hulwyth::line::read_numbers` is safe and ends. The invariant: place and count are in range, `out` is as long. Assumes nothing.
 use borrow.Author.Needs.{needs}
 use mathlib.Core.Path.{_≡_}
 use Prim.Native.Nat.{_-_, _≤_}
 use native.Mathlib.Omega.{arith}
 use lib.ListN.{length, length-set}
-use Rattle.hulwyth.proofs.reading.read_numbers.Statement.{statement}
-use Rattle.hulwyth.proofs.reading.read_numbers.Tie as tie
+use Rattle.hulwyth.proofs.line.read_numbers.Statement.{statement}
+use Rattle.hulwyth.proofs.line.read_numbers.Tie as tie
 
 abbrev Inv-loop : tie.InvT-loop
 Inv-loop line from out₀ at₀ i₀ out at i = (at ≤ length line) × (i ≤ length out) × (length out ≡ length out₀)

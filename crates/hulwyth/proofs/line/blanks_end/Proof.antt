@@ -1,9 +1,9 @@
--- `hulwyth::reading::word_end` meets its contract. The invariant: the place is between the first and the end. Assumes nothing.
+-- `hulwyth::line::blanks_end` meets its contract. The invariant: the place is between the first and the end. Assumes nothing.
 use borrow.Author.Needs.{needs}
 use Prim.Native.Nat.{_-_, _≤_}
 use lib.ListN.{length}
-use Rattle.hulwyth.proofs.reading.word_end.Statement.{statement}
-use Rattle.hulwyth.proofs.reading.word_end.Tie as tie
+use Rattle.hulwyth.proofs.line.blanks_end.Statement.{statement}
+use Rattle.hulwyth.proofs.line.blanks_end.Tie as tie
 
 abbrev Inv-loop : tie.InvT-loop
 Inv-loop line from at₀ at = (from ≤ at) × (at ≤ length line)
@@ -11,8 +11,8 @@ Inv-loop line from at₀ at = (from ≤ at) × (at ≤ length line)
 abbrev μ-loop : tie.MeasureT-loop
 μ-loop line from at₀ at = length line - at
 
-pub word-end-spec : {M : Type 1} → statement M
-word-end-spec =
+pub blanks-end-spec : {M : Type 1} → statement M
+blanks-end-spec =
     tie.close
     (tie.spec
     Inv-loop

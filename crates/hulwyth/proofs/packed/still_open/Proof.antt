@@ -1,8 +1,8 @@
--- `hulwyth::outline::still_open` meets its contract. The invariant: the count has not grown. Assumes nothing.
+-- `hulwyth::packed::still_open` meets its contract. The invariant: the count has not grown. Assumes nothing.
 use borrow.Author.Needs.{needs}
 use Prim.Native.Nat.{_≤_}
-use Rattle.hulwyth.proofs.outline.still_open.Statement.{statement}
-use Rattle.hulwyth.proofs.outline.still_open.Tie as tie
+use Rattle.hulwyth.proofs.packed.still_open.Statement.{statement}
+use Rattle.hulwyth.proofs.packed.still_open.Tie as tie
 
 abbrev Inv-loop : tie.InvT-loop
 Inv-loop ends held at count₀ count = count ≤ held

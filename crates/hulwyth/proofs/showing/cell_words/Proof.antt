@@ -1,9 +1,9 @@
--- `hulwyth::cell_words` meets its contract: so many words are in the slice. Assumes nothing.
+-- `hulwyth::showing::cell_words` meets its contract: so many words are in the slice. Assumes nothing.
 use borrow.Author.Needs.{needs}
 use native.Mathlib.Omega.{arith}
 use Rattle.io.proofs.Counting.{counts}
-use Rattle.hulwyth.proofs.cell_words.Statement.{statement}
-use Rattle.hulwyth.proofs.cell_words.Tie as tie
+use Rattle.hulwyth.proofs.showing.cell_words.Statement.{statement}
+use Rattle.hulwyth.proofs.showing.cell_words.Tie as tie
 
 returns : tie.Need-returns
 returns c = counts _ _ (omega arith)
