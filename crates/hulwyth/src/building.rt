@@ -42,7 +42,6 @@ fn built(
 // Builds the tree of a list in the rooms that are lent, and shows it or says why the list is refused.
 fn build_within(
     page: &mut [u8],
-    used: &mut usize,
     text: &[u8],
     names: &[u8],
     numbers: Numbers,
@@ -60,7 +59,6 @@ fn build_within(
     match answer {
         Built::Cells(count, packed) => show_front(
             page,
-            used,
             names,
             numbers,
             options,
@@ -71,14 +69,13 @@ fn build_within(
             packed,
             work,
         ),
-        Built::Refused(number, place) => print_refusal(page, used, number, place, text),
+        Built::Refused(number, place) => print_refusal(page, number, place, text),
     }
 }
 
 // Builds the tree of a list.
 fn build_list(
     page: &mut [u8],
-    used: &mut usize,
     text: &[u8],
     names: &[u8],
     settings: &[u64],
@@ -94,7 +91,6 @@ fn build_list(
     let mut words = rooms::words();
     build_within(
         page,
-        used,
         text,
         names,
         numbers,
@@ -107,7 +103,7 @@ fn build_list(
 }
 
 // Reads the list of a text, and builds it or says what is wrong with the text.
-pub fn run(page: &mut [u8], used: &mut usize, text: &[u8], options: Options) {
+pub fn run(page: &mut [u8], text: &[u8], options: Options) {
     let mut settings = [UNSET; 6];
     let mut names = rooms::names();
     let mut records = rooms::records();
@@ -115,24 +111,15 @@ pub fn run(page: &mut [u8], used: &mut usize, text: &[u8], options: Options) {
     let problem = read.problem;
     let held = read.held;
     if !is_fine(problem) {
-        print_problem(page, used, problem, read.line);
+        print_problem(page, problem, read.line);
         return;
     }
     if settings[TYPES] == UNSET {
         put(
             page,
-            used,
             b"the text has no line 'types N', the number of types\n",
         );
         return;
     }
-    build_list(
-        page,
-        used,
-        text,
-        &names,
-        &settings,
-        &records[..held],
-        options,
-    );
+    build_list(page, text, &names, &settings, &records[..held], options);
 }

@@ -33,36 +33,36 @@ pub fn read_all(from: i32, room: &mut [u8]) -> Input
 }
 
 // Names what the text comes from, behind what is said of it.
-fn put_source(page: &mut [u8], used: &mut usize, said: &[u8], path: &[u8]) {
-    put(page, used, said);
+fn put_source(page: &mut [u8], said: &[u8], path: &[u8]) {
+    put(page, said);
     if check::same(path, b"-") {
-        put(page, used, b"standard input\n");
+        put(page, b"standard input\n");
         return;
     }
-    put(page, used, b"the file ");
-    put(page, used, path);
-    put(page, used, b"\n");
+    put(page, b"the file ");
+    put(page, path);
+    put(page, b"\n");
 }
 
 // Says that the text of argument `file`, or of standard input where it is 0, could not be read to its end.
-pub fn print_unread(page: &mut [u8], used: &mut usize, file: usize) {
+pub fn print_unread(page: &mut [u8], file: usize) {
     if file == 0 {
-        put_source(page, used, b"cannot read ", b"-");
+        put_source(page, b"cannot read ", b"-");
         return;
     }
     let mut path = io::buffer();
     let count = os::arg(file, &mut path);
-    put_source(page, used, b"cannot read ", &path[..count]);
+    put_source(page, b"cannot read ", &path[..count]);
 }
 
 // The descriptor of a path, where - is standard input; -1, after a message, where it cannot be opened.
-fn opened(page: &mut [u8], used: &mut usize, path: &[u8]) -> i32 {
+fn opened(page: &mut [u8], path: &[u8]) -> i32 {
     if check::same(path, b"-") {
         return libc::STDIN_FILENO;
     }
     let descriptor = os::open_read(path);
     if descriptor < 0 {
-        put_source(page, used, b"cannot open ", path);
+        put_source(page, b"cannot open ", path);
         return -1;
     }
     descriptor
@@ -70,11 +70,11 @@ fn opened(page: &mut [u8], used: &mut usize, path: &[u8]) -> i32 {
 
 // The descriptor of what argument `file` names, or of standard input where it is 0; -1, after a message, where it cannot
 // be opened.
-pub fn descriptor(page: &mut [u8], used: &mut usize, file: usize) -> i32 {
+pub fn descriptor(page: &mut [u8], file: usize) -> i32 {
     if file == 0 {
         return libc::STDIN_FILENO;
     }
     let mut path = io::buffer();
     let count = os::arg(file, &mut path);
-    opened(page, used, &path[..count])
+    opened(page, &path[..count])
 }

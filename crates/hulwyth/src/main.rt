@@ -19,8 +19,8 @@ use options::Options;
 use output::put;
 
 // Reads the text that is asked for, and shows what is made of it or says why it cannot be read.
-fn read(page: &mut [u8], used: &mut usize, options: Options) {
-    let from = input::descriptor(page, used, options.file);
+fn read(page: &mut [u8], options: Options) {
+    let from = input::descriptor(page, options.file);
     if from < 0 {
         return;
     }
@@ -28,36 +28,34 @@ fn read(page: &mut [u8], used: &mut usize, options: Options) {
     let text = input::read_all(from, &mut room);
     let count = text.count;
     if text.failed {
-        input::print_unread(page, used, options.file);
+        input::print_unread(page, options.file);
         return;
     }
     if count == room.len() {
         put(
             page,
-            used,
             b"the text is longer than 1048575 bytes, which is all that this program takes\n",
         );
         return;
     }
-    building::run(page, used, &room[..count], options);
+    building::run(page, &room[..count], options);
 }
 
 // Does what the arguments ask for, or says which of them means nothing.
-fn answer(page: &mut [u8], used: &mut usize, options: Options) {
+fn answer(page: &mut [u8], options: Options) {
     if options.help {
-        messages::print_help(page, used);
+        messages::print_help(page);
         return;
     }
     if options.bad != 0 {
-        options::print_bad(page, used, options.bad);
+        options::print_bad(page, options.bad);
         return;
     }
-    read(page, used, options);
+    read(page, options);
 }
 
 fn main() {
     let mut page = io::large_buffer();
-    let mut used: usize = 0;
-    answer(&mut page, &mut used, options::asked());
-    output::flush(&mut page, &mut used);
+    answer(&mut page, options::asked());
+    output::flush(&mut page);
 }

@@ -73,17 +73,17 @@ fn name_end(names: &[u8], from: usize, limit: usize) -> usize
 }
 
 // An id and the name that it has, if any.
-pub fn print_id(page: &mut [u8], used: &mut usize, names: &[u8], id: u32)
+pub fn print_id(page: &mut [u8], names: &[u8], id: u32)
     requires { ⌜ 32768 ≡ length (now names) ⌝ }
 {
-    put_digits(page, used, id as u64);
+    put_digits(page, id as u64);
     if NAMED <= id {
         return;
     }
     let from = id as usize * NAME;
     let end = name_end(names, from, from + NAME);
     if from < end {
-        put(page, used, b" ");
-        put(page, used, &names[from..end]);
+        put(page, b" ");
+        put(page, &names[from..end]);
     }
 }

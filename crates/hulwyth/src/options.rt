@@ -96,24 +96,24 @@ pub fn asked() -> Options {
 }
 
 // Says what is wrong with a word that is no argument.
-fn print_wrong(page: &mut [u8], used: &mut usize, word: &[u8]) {
+fn print_wrong(page: &mut [u8], word: &[u8]) {
     if is_option(word) {
-        put(page, used, b"unknown option ");
+        put(page, b"unknown option ");
         return;
     }
-    put(page, used, b"one file is read, and this is another: ");
+    put(page, b"one file is read, and this is another: ");
 }
 
 // Says why argument i means nothing.
-pub fn print_bad(page: &mut [u8], used: &mut usize, i: usize) {
+pub fn print_bad(page: &mut [u8], i: usize) {
     let mut word = io::buffer();
     let count = os::arg(i, &mut word);
     if os::errno() != 0 {
-        put_number(page, used, b"argument ", i as u64);
-        put(page, used, b" is longer than any path\n");
+        put_number(page, b"argument ", i as u64);
+        put(page, b" is longer than any path\n");
         return;
     }
-    print_wrong(page, used, &word[..count]);
-    put(page, used, &word[..count]);
-    put(page, used, b"; hulwyth --help shows what can be given\n");
+    print_wrong(page, &word[..count]);
+    put(page, &word[..count]);
+    put(page, b"; hulwyth --help shows what can be given\n");
 }

@@ -14,35 +14,34 @@ fn index(word: u32) -> usize {
 }
 
 // What a cell is: a tree is shown by its id.
-fn print_label(page: &mut [u8], used: &mut usize, names: &[u8], kind: u32, id: u32)
+fn print_label(page: &mut [u8], names: &[u8], kind: u32, id: u32)
     requires { ⌜ 32768 ≡ length (now names) ⌝ }
 {
     if kind == 1 {
-        print_id(page, used, names, id);
+        print_id(page, names, id);
         return;
     }
     if kind == 2 {
-        put(page, used, b"part");
+        put(page, b"part");
         return;
     }
-    put(page, used, b"tree of no type");
+    put(page, b"tree of no type");
 }
 
 // The end of a cell's line: a repeat tree is marked.
-fn print_mark(page: &mut [u8], used: &mut usize, first_repeat: u32, kind: u32, id: u32) {
+fn print_mark(page: &mut [u8], first_repeat: u32, kind: u32, id: u32) {
     if kind == 1 {
         if first_repeat <= id {
-            put(page, used, b" repeat\n");
+            put(page, b" repeat\n");
             return;
         }
     }
-    put(page, used, b"\n");
+    put(page, b"\n");
 }
 
 // The line of a cell. Its end can be above 32 bits: the length of the top is any that is given.
 fn print_cell(
     page: &mut [u8],
-    used: &mut usize,
     names: &[u8],
     first_repeat: u32,
     kind: u32,
@@ -52,9 +51,9 @@ fn print_cell(
 )
     requires { ⌜ 32768 ≡ length (now names) ⌝ }
 {
-    print_label(page, used, names, kind, id);
-    print_range(page, used, start as u64, start as u64 + long as u64);
-    print_mark(page, used, first_repeat, kind, id);
+    print_label(page, names, kind, id);
+    print_range(page, start as u64, start as u64 + long as u64);
+    print_mark(page, first_repeat, kind, id);
 }
 
 // Notes the start that cell x, counted from 1, counts its position from, and its depth. What is noted for cell 0 is not read.
@@ -69,7 +68,6 @@ fn note(notes: &mut [u32], x: u32, base: u32, depth: u32) {
 // The line of cell i, counted from 0, and of a part's records.
 fn print_one(
     page: &mut [u8],
-    used: &mut usize,
     names: &[u8],
     first_repeat: u32,
     cells: &[u32],
@@ -89,12 +87,11 @@ fn print_one(
     let long = cells[i * 7 + 3];
     let first = index(cells[i * 7 + 4]);
     let count = index(cells[i * 7 + 5]);
-    print_indent(page, used, depth as usize);
-    print_cell(page, used, names, first_repeat, kind, id, start, long);
+    print_indent(page, depth as usize);
+    print_cell(page, names, first_repeat, kind, id, start, long);
     if kind == 2 {
         print_part_at(
             page,
-            used,
             names,
             words,
             first,
@@ -109,7 +106,6 @@ fn print_one(
 // The line of cell i, counted from 0, at what is noted for it.
 fn print_noted(
     page: &mut [u8],
-    used: &mut usize,
     names: &[u8],
     first_repeat: u32,
     cells: &[u32],
@@ -127,7 +123,6 @@ fn print_noted(
     let depth = notes[i * 2 + 3];
     print_one(
         page,
-        used,
         names,
         first_repeat,
         cells,
@@ -157,7 +152,6 @@ fn note_links(cells: &[u32], i: usize, notes: &mut [u32])
 // The line of cell i, counted from 0, and the notes that it leaves.
 fn print_next(
     page: &mut [u8],
-    used: &mut usize,
     names: &[u8],
     first_repeat: u32,
     cells: &[u32],
@@ -171,24 +165,13 @@ fn print_next(
     requires { ⌜ i * 7 + 7 ≤ length (now cells) ⌝ }
     requires { ⌜ i * 2 + 4 ≤ length (now notes) ⌝ }
 {
-    print_noted(
-        page,
-        used,
-        names,
-        first_repeat,
-        cells,
-        words,
-        i,
-        notes,
-        ends,
-    );
+    print_noted(page, names, first_repeat, cells, words, i, notes, ends);
     note_links(cells, i, notes);
 }
 
 // The outline of a tree whose top starts at `start`.
 pub fn print_tree(
     page: &mut [u8],
-    used: &mut usize,
     names: &[u8],
     first_repeat: u32,
     start: u32,
@@ -205,17 +188,7 @@ pub fn print_tree(
     let count = cells.len() / 7;
     let mut i: usize = 0;
     while i < count {
-        print_next(
-            page,
-            used,
-            names,
-            first_repeat,
-            cells,
-            words,
-            i,
-            notes,
-            ends,
-        );
+        print_next(page, names, first_repeat, cells, words, i, notes, ends);
         i += 1;
     }
 }

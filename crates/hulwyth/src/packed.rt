@@ -15,17 +15,17 @@ fn later(start: u32, by: u16) -> u64 {
     start as u64 + by as u64
 }
 
-pub fn print_indent(page: &mut [u8], used: &mut usize, depth: usize) {
+pub fn print_indent(page: &mut [u8], depth: usize) {
     let mut i: usize = 0;
     while i < depth {
-        put(page, used, b"  ");
+        put(page, b"  ");
         i += 1;
     }
 }
 
-pub fn print_range(page: &mut [u8], used: &mut usize, start: u64, end: u64) {
-    put_number(page, used, b" ", start);
-    put_number(page, used, b"..", end);
+pub fn print_range(page: &mut [u8], start: u64, end: u64) {
+    put_number(page, b" ", start);
+    put_number(page, b"..", end);
 }
 
 // How many of the records whose ends are held go on past a word offset: the others end, and the last one ends first.
@@ -44,34 +44,20 @@ fn still_open(ends: &[u16], held: usize, at: usize) -> usize
 }
 
 // The record of a part at a word offset; `start` is the part's.
-fn print_packed(
-    page: &mut [u8],
-    used: &mut usize,
-    names: &[u8],
-    part: &[u16],
-    at: usize,
-    start: u32,
-    depth: usize,
-)
+fn print_packed(page: &mut [u8], names: &[u8], part: &[u16], at: usize, start: u32, depth: usize)
     requires { ⌜ 32768 ≡ length (now names) ⌝ }
     requires { ⌜ at + 4 ≤ length (now part) ⌝ }
 {
-    print_indent(page, used, depth);
-    print_id(page, used, names, wide(part[at]));
-    print_range(
-        page,
-        used,
-        later(start, part[at + 1]),
-        later(start, part[at + 2]),
-    );
-    put(page, used, b"\n");
+    print_indent(page, depth);
+    print_id(page, names, wide(part[at]));
+    print_range(page, later(start, part[at + 1]), later(start, part[at + 2]));
+    put(page, b"\n");
 }
 
 // The record of a part at a word offset, under those around it, whose end indices are held in `ends`; and its own is held,
 // too. Answers how many are held then.
 fn print_under(
     page: &mut [u8],
-    used: &mut usize,
     names: &[u8],
     part: &[u16],
     at: usize,
@@ -88,14 +74,13 @@ fn print_under(
     let around = still_open(ends, held, at);
     ends[around] = part[at + 3];
     let deeper = std::num::wrapping_add_usize(depth, around);
-    print_packed(page, used, names, part, at, start, deeper);
+    print_packed(page, names, part, at, start, deeper);
     around + 1
 }
 
 // The records of a part, each under the one around it.
 fn print_part(
     page: &mut [u8],
-    used: &mut usize,
     names: &[u8],
     part: &[u16],
     start: u32,
@@ -109,7 +94,7 @@ fn print_part(
     let mut held: usize = 0;
     let mut i: usize = 0;
     while i < count {
-        held = print_under(page, used, names, part, i * 4, start, depth, ends, held);
+        held = print_under(page, names, part, i * 4, start, depth, ends, held);
         i += 1;
     }
 }
@@ -117,7 +102,6 @@ fn print_part(
 // The part of `count` words from word `first` on.
 pub fn print_part_at(
     page: &mut [u8],
-    used: &mut usize,
     names: &[u8],
     words: &[u16],
     first: usize,
@@ -137,7 +121,6 @@ pub fn print_part_at(
     }
     print_part(
         page,
-        used,
         names,
         &words[first..first + count],
         start,

@@ -69,7 +69,6 @@ fn ordinary(records: &[u32], first_repeat: u32) -> usize {
 // Lists a tree without packed parts, and says how many of the ordinary records of its list are missing.
 fn show_list(
     page: &mut [u8],
-    used: &mut usize,
     names: &[u8],
     numbers: Numbers,
     records: &[u32],
@@ -90,17 +89,16 @@ fn show_list(
     match answer {
         Listed::Lines(count) => {
             let end = line_words(count, &lines);
-            tables::print_lines(page, used, names, &lines[..end]);
-            messages::print_missing(page, used, ordinary(records, numbers.first_repeat), count);
+            tables::print_lines(page, names, &lines[..end]);
+            messages::print_missing(page, ordinary(records, numbers.first_repeat), count);
         }
-        Listed::Refused(number, _) => messages::print_refused(page, used, number),
+        Listed::Refused(number, _) => messages::print_refused(page, number),
     }
 }
 
 // Lists a tree: its packed records become trees first.
 fn show_tree_list(
     page: &mut [u8],
-    used: &mut usize,
     names: &[u8],
     numbers: Numbers,
     records: &[u32],
@@ -115,24 +113,23 @@ fn show_tree_list(
     match answer {
         Materialized::Cells(count) => {
             let end = cell_words(count, &out);
-            show_list(page, used, names, numbers, records, &out[..end], work);
+            show_list(page, names, numbers, records, &out[..end], work);
         }
-        Materialized::Refused(number, _) => messages::print_refused(page, used, number),
+        Materialized::Refused(number, _) => messages::print_refused(page, number),
     }
 }
 
 // How many records were accepted, and how large their tree is.
-fn print_sizes(page: &mut [u8], used: &mut usize, records: usize, cells: usize, words: usize) {
-    put_number(page, used, b"accepted: records ", records as u64);
-    put_number(page, used, b", cells ", cells as u64);
-    put_number(page, used, b", packed words ", words as u64);
-    put(page, used, b"\ntree: id range\n");
+fn print_sizes(page: &mut [u8], records: usize, cells: usize, words: usize) {
+    put_number(page, b"accepted: records ", records as u64);
+    put_number(page, b", cells ", cells as u64);
+    put_number(page, b", packed words ", words as u64);
+    put(page, b"\ntree: id range\n");
 }
 
 // The sizes and the outline of a tree.
 fn show_outline(
     page: &mut [u8],
-    used: &mut usize,
     names: &[u8],
     numbers: Numbers,
     records: usize,
@@ -145,10 +142,9 @@ fn show_outline(
     requires { ⌜ length (now words) ≤ 16384 ⌝ }
 {
     let mut ends = rooms::words();
-    print_sizes(page, used, records, cells.len() / 7, words.len());
+    print_sizes(page, records, cells.len() / 7, words.len());
     outline::print_tree(
         page,
-        used,
         names,
         numbers.first_repeat,
         numbers.start,
@@ -160,23 +156,22 @@ fn show_outline(
 }
 
 // The cells, where they are asked for.
-fn show_cells(page: &mut [u8], used: &mut usize, options: Options, cells: &[u32]) {
+fn show_cells(page: &mut [u8], options: Options, cells: &[u32]) {
     if options.cells {
-        tables::print_cells(page, used, cells);
+        tables::print_cells(page, cells);
     }
 }
 
 // The packed words, where they are asked for.
-fn show_words(page: &mut [u8], used: &mut usize, options: Options, words: &[u16]) {
+fn show_words(page: &mut [u8], options: Options, words: &[u16]) {
     if options.words {
-        tables::print_words(page, used, words);
+        tables::print_words(page, words);
     }
 }
 
 // Shows a tree, with its cells and words where they are asked for.
 fn show_tree(
     page: &mut [u8],
-    used: &mut usize,
     names: &[u8],
     numbers: Numbers,
     options: Options,
@@ -189,25 +184,15 @@ fn show_tree(
     requires { ⌜ length (now cells) ≤ length (now work) ⌝ }
     requires { ⌜ length (now words) ≤ 16384 ⌝ }
 {
-    show_outline(
-        page,
-        used,
-        names,
-        numbers,
-        records.len() / 4,
-        cells,
-        words,
-        work,
-    );
-    show_cells(page, used, options, cells);
-    show_words(page, used, options, words);
-    show_tree_list(page, used, names, numbers, records, cells, words, work);
+    show_outline(page, names, numbers, records.len() / 4, cells, words, work);
+    show_cells(page, options, cells);
+    show_words(page, options, words);
+    show_tree_list(page, names, numbers, records, cells, words, work);
 }
 
 // Shows the tree that is in the first cells and packed words, so many of each.
 pub fn show_front(
     page: &mut [u8],
-    used: &mut usize,
     names: &[u8],
     numbers: Numbers,
     options: Options,
@@ -226,7 +211,6 @@ pub fn show_front(
     let last = packed_words(packed, words);
     show_tree(
         page,
-        used,
         names,
         numbers,
         options,

@@ -15,82 +15,78 @@ fn wider(word: u16) -> u64 {
 }
 
 // The words of a cell.
-fn print_row(page: &mut [u8], used: &mut usize, row: &[u32]) {
+fn print_row(page: &mut [u8], row: &[u32]) {
     let mut i: usize = 0;
     while i < row.len() {
-        put_number(page, used, b" ", wide(row[i]));
+        put_number(page, b" ", wide(row[i]));
         i += 1;
     }
-    put(page, used, b"\n");
+    put(page, b"\n");
 }
 
 // The cells, one a line, each with its number.
-pub fn print_cells(page: &mut [u8], used: &mut usize, cells: &[u32]) {
-    put(
-        page,
-        used,
-        b"cells: kind id position length first count next\n",
-    );
+pub fn print_cells(page: &mut [u8], cells: &[u32]) {
+    put(page, b"cells: kind id position length first count next\n");
     let count = cells.len() / 7;
     let mut i: usize = 0;
     while i < count {
-        put_number(page, used, b" ", (i + 1) as u64);
-        put(page, used, b":");
-        print_row(page, used, &cells[i * 7..i * 7 + 7]);
+        put_number(page, b" ", (i + 1) as u64);
+        put(page, b":");
+        print_row(page, &cells[i * 7..i * 7 + 7]);
         i += 1;
     }
 }
 
 // The words of a packed record.
-fn print_packed(page: &mut [u8], used: &mut usize, row: &[u16]) {
+fn print_packed(page: &mut [u8], row: &[u16]) {
     let mut i: usize = 0;
     while i < row.len() {
-        put_number(page, used, b" ", wider(row[i]));
+        put_number(page, b" ", wider(row[i]));
         i += 1;
     }
-    put(page, used, b"\n");
+    put(page, b"\n");
 }
 
 // The packed words, a record's four a line, each with its offset.
-pub fn print_words(page: &mut [u8], used: &mut usize, words: &[u16]) {
-    put(page, used, b"words: id start end end-index\n");
+pub fn print_words(page: &mut [u8], words: &[u16]) {
+    put(page, b"words: id start end end-index\n");
     let count = words.len() / 4;
     let mut i: usize = 0;
     while i < count {
-        put_number(page, used, b" ", (i * 4) as u64);
-        put(page, used, b":");
-        print_packed(page, used, &words[i * 4..i * 4 + 4]);
+        put_number(page, b" ", (i * 4) as u64);
+        put(page, b":");
+        print_packed(page, &words[i * 4..i * 4 + 4]);
         i += 1;
     }
 }
 
 // Where a node of a listing starts and ends.
-fn print_bounds(page: &mut [u8], used: &mut usize, start: u32, end: u32) {
-    put_number(page, used, b" ", start as u64);
-    put_number(page, used, b" ", end as u64);
-    put(page, used, b"\n");
+fn print_bounds(page: &mut [u8], start: u32, end: u32) {
+    put_number(page, b" ", start as u64);
+    put_number(page, b" ", end as u64);
+    put(page, b"\n");
 }
 
 // A line of a listing: depth, id with its name, start, end.
-fn print_line(page: &mut [u8], used: &mut usize, names: &[u8], lines: &[u32], at: usize)
+fn print_line(page: &mut [u8], names: &[u8], lines: &[u32], at: usize)
     requires { ⌜ 32768 ≡ length (now names) ⌝ }
     requires { ⌜ at + 4 ≤ length (now lines) ⌝ }
 {
-    put_number(page, used, b" ", wide(lines[at]));
-    put(page, used, b" ");
-    print_id(page, used, names, lines[at + 1]);
-    print_bounds(page, used, lines[at + 2], lines[at + 3]);
+    put_number(page, b" ", wide(lines[at]));
+    put(page, b" ");
+    print_id(page, names, lines[at + 1]);
+    print_bounds(page, lines[at + 2], lines[at + 3]);
 }
 
 // The lines of a listing.
-pub fn print_lines(page: &mut [u8], used: &mut usize, names: &[u8], lines: &[u32])
+pub fn print_lines(page: &mut [u8], names: &[u8], lines: &[u32])
     requires { ⌜ 32768 ≡ length (now names) ⌝ }
 {
-    put(page, used, b"listing: depth id start end\n");
+    put(page, b"listing: depth id start end\n");
     let count = lines.len() / 4;
     let mut i: usize = 0;
     while i < count {
-        print_line(page, used, names, lines, i * 4);
+        print_line(page, names, lines, i * 4);
         i += 1;
     }
 }

@@ -7,10 +7,10 @@ use Rattle.hulwyth.proofs.outline.print_tree.Statement.{statement}
 use Rattle.hulwyth.proofs.outline.print_tree.Tie as tie
 
 abbrev Inv-loop : tie.InvT-loop
-Inv-loop page₀ used₀ names first-repeat start cells words notes₀ ends₀ count i₀ page used notes ends i = (i ≤ count) × (count ≡ length cells / 7) × (length page ≡ length page₀) × (length notes ≡ length notes₀) × (length ends ≡ length ends₀)
+Inv-loop page₀ names first-repeat start cells words notes₀ ends₀ count i₀ page notes ends i = (i ≤ count) × (count ≡ length cells / 7) × (length page ≡ length page₀) × (length notes ≡ length notes₀) × (length ends ≡ length ends₀)
 
 abbrev μ-loop : tie.MeasureT-loop
-μ-loop page₀ used₀ names first-repeat start cells words notes₀ ends₀ count i₀ page used notes ends i = count - i
+μ-loop page₀ names first-repeat start cells words notes₀ ends₀ count i₀ page notes ends i = count - i
 
 pub print-tree-spec : {M : Type 1} → statement M
 print-tree-spec =

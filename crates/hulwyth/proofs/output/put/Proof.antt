@@ -7,10 +7,10 @@ use Rattle.hulwyth.proofs.output.put.Statement.{statement}
 use Rattle.hulwyth.proofs.output.put.Tie as tie
 
 abbrev Inv-loop : tie.InvT-loop
-Inv-loop page₀ used₀ text i₀ page used i = length page ≡ length page₀
+Inv-loop page₀ text i₀ page i = length page ≡ length page₀
 
 abbrev μ-loop : tie.MeasureT-loop
-μ-loop page₀ used₀ text i₀ page used i = length text - i
+μ-loop page₀ text i₀ page i = length text - i
 
 pub put-spec : {M : Type 1} → statement M
 put-spec =

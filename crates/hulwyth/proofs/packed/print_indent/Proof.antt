@@ -7,10 +7,10 @@ use Rattle.hulwyth.proofs.packed.print_indent.Statement.{statement}
 use Rattle.hulwyth.proofs.packed.print_indent.Tie as tie
 
 abbrev Inv-loop : tie.InvT-loop
-Inv-loop page₀ used₀ depth i₀ t5 page used i = length page ≡ length page₀
+Inv-loop page₀ depth i₀ t5 page i = length page ≡ length page₀
 
 abbrev μ-loop : tie.MeasureT-loop
-μ-loop page₀ used₀ depth i₀ t5 page used i = depth - i
+μ-loop page₀ depth i₀ t5 page i = depth - i
 
 pub print-indent-spec : {M : Type 1} → statement M
 print-indent-spec =

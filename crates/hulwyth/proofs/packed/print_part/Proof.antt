@@ -7,10 +7,10 @@ use Rattle.hulwyth.proofs.packed.print_part.Statement.{statement}
 use Rattle.hulwyth.proofs.packed.print_part.Tie as tie
 
 abbrev Inv-loop : tie.InvT-loop
-Inv-loop page₀ used₀ names part start depth ends₀ count held₀ i₀ page used ends held i = (held ≤ i) × (i ≤ count) × (count ≡ length part / 4) × (length page ≡ length page₀) × (length ends ≡ length ends₀)
+Inv-loop page₀ names part start depth ends₀ count held₀ i₀ page ends held i = (held ≤ i) × (i ≤ count) × (count ≡ length part / 4) × (length page ≡ length page₀) × (length ends ≡ length ends₀)
 
 abbrev μ-loop : tie.MeasureT-loop
-μ-loop page₀ used₀ names part start depth ends₀ count held₀ i₀ page used ends held i = count - i
+μ-loop page₀ names part start depth ends₀ count held₀ i₀ page ends held i = count - i
 
 pub print-part-spec : {M : Type 1} → statement M
 print-part-spec =

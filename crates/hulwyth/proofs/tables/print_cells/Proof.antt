@@ -7,10 +7,10 @@ use Rattle.hulwyth.proofs.tables.print_cells.Statement.{statement}
 use Rattle.hulwyth.proofs.tables.print_cells.Tie as tie
 
 abbrev Inv-loop : tie.InvT-loop
-Inv-loop page₀ used₀ cells count i₀ t7 t8 page used i = (i ≤ count) × (count ≡ length cells / 7) × (length page ≡ length page₀)
+Inv-loop page₀ cells count i₀ t7 t8 page i = (i ≤ count) × (count ≡ length cells / 7) × (length page ≡ length page₀)
 
 abbrev μ-loop : tie.MeasureT-loop
-μ-loop page₀ used₀ cells count i₀ t7 t8 page used i = count - i
+μ-loop page₀ cells count i₀ t7 t8 page i = count - i
 
 pub print-cells-spec : {M : Type 1} → statement M
 print-cells-spec =

@@ -7,10 +7,10 @@ use Rattle.hulwyth.proofs.tables.print_lines.Statement.{statement}
 use Rattle.hulwyth.proofs.tables.print_lines.Tie as tie
 
 abbrev Inv-loop : tie.InvT-loop
-Inv-loop page₀ used₀ names lines count i₀ page used i = (i ≤ count) × (count ≡ length lines / 4) × (length page ≡ length page₀)
+Inv-loop page₀ names lines count i₀ page i = (i ≤ count) × (count ≡ length lines / 4) × (length page ≡ length page₀)
 
 abbrev μ-loop : tie.MeasureT-loop
-μ-loop page₀ used₀ names lines count i₀ page used i = count - i
+μ-loop page₀ names lines count i₀ page i = count - i
 
 pub print-lines-spec : {M : Type 1} → statement M
 print-lines-spec =

@@ -7,10 +7,10 @@ use Rattle.hulwyth.proofs.tables.print_packed.Statement.{statement}
 use Rattle.hulwyth.proofs.tables.print_packed.Tie as tie
 
 abbrev Inv-loop : tie.InvT-loop
-Inv-loop page₀ used₀ row i₀ t5 t6 page used i = length page ≡ length page₀
+Inv-loop page₀ row i₀ t5 t6 page i = length page ≡ length page₀
 
 abbrev μ-loop : tie.MeasureT-loop
-μ-loop page₀ used₀ row i₀ t5 t6 page used i = length row - i
+μ-loop page₀ row i₀ t5 t6 page i = length row - i
 
 pub print-packed-spec : {M : Type 1} → statement M
 print-packed-spec =

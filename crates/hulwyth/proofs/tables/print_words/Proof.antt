@@ -7,10 +7,10 @@ use Rattle.hulwyth.proofs.tables.print_words.Statement.{statement}
 use Rattle.hulwyth.proofs.tables.print_words.Tie as tie
 
 abbrev Inv-loop : tie.InvT-loop
-Inv-loop page₀ used₀ words count i₀ t7 t8 page used i = (i ≤ count) × (count ≡ length words / 4) × (length page ≡ length page₀)
+Inv-loop page₀ words count i₀ t7 t8 page i = (i ≤ count) × (count ≡ length words / 4) × (length page ≡ length page₀)
 
 abbrev μ-loop : tie.MeasureT-loop
-μ-loop page₀ used₀ words count i₀ t7 t8 page used i = count - i
+μ-loop page₀ words count i₀ t7 t8 page i = count - i
 
 pub print-words-spec : {M : Type 1} → statement M
 print-words-spec =
