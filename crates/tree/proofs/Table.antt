@@ -1,4 +1,4 @@
--- The starred examples of document 01 about builds, which are rows of the table in crates/examples; and those about listings and
+-- The starred examples of document 01 about builds, which are rows of the table in crates/starred_table; and those about listings and
 -- balancing by what the calls write, which that table has by the whole calls. Here the edits of these definitions meet them.
 -- Computed. Assumes nothing.
 use mathlib.Core.Path.{_≡_, refl}
