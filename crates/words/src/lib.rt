@@ -6,6 +6,9 @@ ghost use Prim.Native.Nat.{_+_, _-_, _≤_};
 ghost use lib.ListN.{length};
 ghost use Rattle.words.specs.Words.{Widened, put};
 
+// How many words a record has, in a list and in a packed part.
+pub const RECORD_WIDTH: usize = 4;
+
 // The first place for which a test holds, or nothing.
 pub enum Found {
     At(usize),
