@@ -9,8 +9,8 @@ use lib.ListN.{length, getD, set}
 use Rattle.words.specs.Outcome.{Result, settled}
 use Rattle.words.specs.Words.{front}
 use Rattle.tree.specs.Trees.{Trees, nil, tree, part, nodes}
-use Rattle.tree.specs.Cells.{packed, tree-cells}
-use Rattle.store.specs.Store.{Holds, Staged}
+use Rattle.tree.specs.Cells.{packed, tree-cells, cell-width, cell-kind, cell-position, cell-first, cell-next}
+use Rattle.store.specs.Store.{Holds, Staged, node-width}
 use Rattle.rules.specs.Lowest.{bad-cell}
 use Rattle.rules.specs.Calls.{items, most-items, result-room, handed-in}
 
@@ -31,7 +31,7 @@ pub record Given (cs ws : List ℕ) (n : ℕ) : Type 0 where
   pub types : ℕ
   pub accepted : bad-cell types 0 true cs ws ≡ none
   pub short : (j : ℕ) → getD ws j 0 < 65536
-  pub whole : n ≡ length cs / 7
+  pub whole : n ≡ length cs / cell-width
 
 -- one word for cell x, counted from 1, unless x names none
 unfoldable pub noted : (held : List ℕ) (x q : ℕ) → List ℕ
@@ -40,16 +40,16 @@ noted held x q = cond (eqb x 0) held (set held (x - 1) q)
 -- what cell i, counted from 0, notes for the cells that it names by next and by first
 unfoldable pub links-noted : (cs held : List ℕ) (i : ℕ) → List ℕ
 links-noted cs held i =
-    let later = noted held (getD cs (i * 7 + 6) 0) (getD held i 0) in
-    cond (eqb (getD cs (i * 7) 0) 2) later (noted later (getD cs (i * 7 + 4) 0) (getD held i 0 + getD cs (i * 7 + 2) 0))
+    let later = noted held (cell-next cs i) (getD held i 0) in
+    cond (eqb (cell-kind cs i) 2) later (noted later (cell-first cs i) (getD held i 0 + cell-position cs i))
 
 -- cell i can be read, the cells that it names have a word of the work slice, and its start fits 32 bits
 pub record Linked (cs held : List ℕ) (i : ℕ) : Type 0 where
-  pub inside : i * 7 + 7 ≤ length cs
+  pub inside : i * cell-width + cell-width ≤ length cs
   pub own : i < length held
-  pub next-fits : getD cs (i * 7 + 6) 0 ≤ length held
-  pub first-fits : (getD cs (i * 7) 0 ≡ 2 → ⊥) → getD cs (i * 7 + 4) 0 ≤ length held
-  pub start-fits : getD held i 0 + getD cs (i * 7 + 2) 0 ≤ 4294967295
+  pub next-fits : cell-next cs i ≤ length held
+  pub first-fits : (cell-kind cs i ≡ 2 → ⊥) → cell-first cs i ≤ length held
+  pub start-fits : getD held i 0 + cell-position cs i ≤ 4294967295
 
 -- the first n words are the starts of the cells' parents
 abbrev pub Based : (held : List ℕ) (n : ℕ) → Trees → Type 0
@@ -57,7 +57,7 @@ Based held n ts = (k : ℕ) → k < n → getD held k 0 ≡ getD (bases 0 ts) k 
 
 -- Where the node of cell x stands, counted from 1, if nodes go up to `high`; 0 for none.
 unfoldable pub address : (high x : ℕ) → ℕ
-address high x = cond (eqb x 0) 0 (high - x * 10)
+address high x = cond (eqb x 0) 0 (high - x * node-width)
 
 -- The cells from cell i on, counted from 0, stand in the store, in front of the packed words.
 pub record Building (held cs ws : List ℕ) (n high low i : ℕ) : Type 0 where
@@ -68,7 +68,7 @@ pub record Building (held cs ws : List ℕ) (n high low i : ℕ) : Type 0 where
   pub fits : low + length ws ≤ 4294967295
   pub based : Based held n (handed-in cs ws)
   pub staged : Staged held low low ws
-  pub built : (k : ℕ) → i ≤ k → k < n → Holds held n (high - i * 10) low (high - (k + 1) * 10) (getD (onwards (handed-in cs ws)) k nil)
+  pub built : (k : ℕ) → i ≤ k → k < n → Holds held n (high - i * node-width) low (high - (k + 1) * node-width) (getD (onwards (handed-in cs ws)) k nil)
 
 -- a tree in the store, with the space to write it out
 pub record Standing (held : List ℕ) (top root : ℕ) (ts : Trees) : Type 0 where
@@ -80,7 +80,7 @@ pub record Standing (held : List ℕ) (top root : ℕ) (ts : Trees) : Type 0 whe
   pub few : nodes ts < 4294967295
   pub narrow : length (packed ts) < 4294967296
   pub live : root ≡ 0 → ⊥
-  pub deep : root + 10 ≤ length held
+  pub deep : root + node-width ≤ length held
 
 -- 12, 13, or the cells and words of a tree at the front of the outputs
 unfoldable pub settled-tree : (ts : Trees) (out words : List ℕ) → Result
@@ -90,6 +90,6 @@ settled-tree ts out words =
 
 -- accepted cells with the work slice that balance asks for
 pub record Lent (cs ws : List ℕ) (work : ℕ) : Type 0 where
-  pub given : Given cs ws (length cs / 7)
+  pub given : Given cs ws (length cs / cell-width)
   pub most : items cs ws ≤ most-items
   pub lent : 96 * items cs ws + 96 ≤ work

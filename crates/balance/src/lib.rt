@@ -5,13 +5,17 @@ ghost use mathlib.Core.Path.{_≡_};
 ghost use mathlib.Core.List.{List, [], _∷_};
 ghost use Prim.Native.Nat.{ℕ, _+_, _*_, _/_, _<_, _≤_};
 ghost use lib.ListN.{length};
+ghost use Rattle.tree.specs.Cells.{cell-width};
 ghost use Rattle.tree.specs.Trees.{Trees};
 ghost use Rattle.tree.specs.Balance.{balanced};
-ghost use Rattle.store.specs.Store.{Staged, Same};
+ghost use Rattle.store.specs.Store.{Staged, Same, node-width};
 ghost use Rattle.rules.specs.Calls.{handed-in, balance-call};
 ghost use Rattle.balance.specs.Answer.{balanced-outcome};
 ghost use Rattle.balance.specs.Steps.{Given, noted, Linked, links-noted, Based, address, Building, Standing, settled-tree, Lent};
 use balance_core::Made;
+use store::NODE_CELLS;
+use store::NODE_WIDTH;
+use store::NODE_WORDS;
 use tree::CELL_WIDTH;
 use tree::COUNT;
 use tree::FIRST;
@@ -19,6 +23,7 @@ use tree::ID;
 use tree::LENGTH;
 use tree::NEXT;
 use tree::POSITION;
+use words::RECORD_WIDTH;
 
 // Puts the packed words below the place `end`, from the last one back: where the first one stands.
 fn stage_words(words: &[u16], work: &mut [u32], end: u32) -> u32
@@ -66,10 +71,10 @@ fn note_links(cells: &[u32], i: usize, work: &mut [u32])
 
 // Puts the start of each cell's parent into the first words, one for each cell.
 fn note_bases(cells: &[u32], work: &mut [u32])
-    requires { ⌜ ((ws : List ℕ) × Given (now cells) ws (length (now cells) / 7)) ⌝ }
-    requires { ⌜ length (now cells) / 7 ≤ length (now work) ⌝ }
-    ensures { λ _. ⌜ ((ws : List ℕ) → Given (now (cells .entry)) ws (length (now (cells .entry)) / 7) → Based (now (work .exit)) (length (now (cells .entry)) / 7) (handed-in (now (cells .entry)) ws)) ⌝ }
-    ensures { λ _. ⌜ Same (now (work .entry)) (now (work .exit)) 0 0 (length (now (cells .entry)) / 7) ⌝ }
+    requires { ⌜ ((ws : List ℕ) × Given (now cells) ws (length (now cells) / cell-width)) ⌝ }
+    requires { ⌜ length (now cells) / cell-width ≤ length (now work) ⌝ }
+    ensures { λ _. ⌜ ((ws : List ℕ) → Given (now (cells .entry)) ws (length (now (cells .entry)) / cell-width) → Based (now (work .exit)) (length (now (cells .entry)) / cell-width) (handed-in (now (cells .entry)) ws)) ⌝ }
+    ensures { λ _. ⌜ Same (now (work .entry)) (now (work .exit)) 0 0 (length (now (cells .entry)) / cell-width) ⌝ }
 {
     work[0] = 0;
     let n = cells.len() / CELL_WIDTH;
@@ -82,22 +87,22 @@ fn note_bases(cells: &[u32], work: &mut [u32])
 
 // The address of the node of cell x, counted from 1; 0 for none.
 fn node_of(high: u32, x: u32) -> u32
-    requires { ⌜ x * 10 ≤ high ⌝ }
+    requires { ⌜ x * node-width ≤ high ⌝ }
     ensures { λ r. ⌜ r ≡ address high x ⌝ }
 {
     if x == 0 {
         return 0;
     }
-    high - x * 10
+    high - x * NODE_WIDTH
 }
 
 // Adds the node of cell i before those of the cells after it.
 fn push_cell(cells: &[u32], i: usize, high: u32, low: u32, work: &mut [u32])
-    requires { ⌜ i < length (now cells) / 7 ⌝ }
-    requires { ⌜ ((ws : List ℕ) × Building (now work) (now cells) ws (length (now cells) / 7) high low (i + 1)) ⌝ }
-    ensures { λ _. ⌜ ((ws : List ℕ) → Building (now (work .entry)) (now (cells .entry)) ws (length (now (cells .entry)) / 7) high low (i + 1) → Building (now (work .exit)) (now (cells .entry)) ws (length (now (cells .entry)) / 7) high low i) ⌝ }
+    requires { ⌜ i < length (now cells) / cell-width ⌝ }
+    requires { ⌜ ((ws : List ℕ) × Building (now work) (now cells) ws (length (now cells) / cell-width) high low (i + 1)) ⌝ }
+    ensures { λ _. ⌜ ((ws : List ℕ) → Building (now (work .entry)) (now (cells .entry)) ws (length (now (cells .entry)) / cell-width) high low (i + 1) → Building (now (work .exit)) (now (cells .entry)) ws (length (now (cells .entry)) / cell-width) high low i) ⌝ }
 {
-    let top = high - (i as u32 + 1) * 10;
+    let top = high - (i as u32 + 1) * NODE_WIDTH;
     let start = work[i] + cells[i * CELL_WIDTH + POSITION];
     let next = node_of(high, cells[i * CELL_WIDTH + NEXT]);
     if cells[i * CELL_WIDTH] == 2 {
@@ -127,8 +132,8 @@ fn push_cell(cells: &[u32], i: usize, high: u32, low: u32, work: &mut [u32])
 
 // Adds the nodes of all cells.
 fn push_cells(cells: &[u32], high: u32, low: u32, work: &mut [u32])
-    requires { ⌜ ((ws : List ℕ) × Building (now work) (now cells) ws (length (now cells) / 7) high low (length (now cells) / 7)) ⌝ }
-    ensures { λ _. ⌜ ((ws : List ℕ) → Building (now (work .entry)) (now (cells .entry)) ws (length (now (cells .entry)) / 7) high low (length (now (cells .entry)) / 7) → Building (now (work .exit)) (now (cells .entry)) ws (length (now (cells .entry)) / 7) high low 0) ⌝ }
+    requires { ⌜ ((ws : List ℕ) × Building (now work) (now cells) ws (length (now cells) / cell-width) high low (length (now cells) / cell-width)) ⌝ }
+    ensures { λ _. ⌜ ((ws : List ℕ) → Building (now (work .entry)) (now (cells .entry)) ws (length (now (cells .entry)) / cell-width) high low (length (now (cells .entry)) / cell-width) → Building (now (work .exit)) (now (cells .entry)) ws (length (now (cells .entry)) / cell-width) high low 0) ⌝ }
 {
     let mut i = cells.len() / CELL_WIDTH;
     while 0 < i {
@@ -139,15 +144,15 @@ fn push_cells(cells: &[u32], high: u32, low: u32, work: &mut [u32])
 
 // The tree with its children balanced, if there are more than 8.
 fn rebuild(cells: &[u32], high: u32, low: u32, work: &mut [u32]) -> Made
-    requires { ⌜ ((ws : List ℕ) × Building (now work) (now cells) ws (length (now cells) / 7) high low 0) ⌝ }
-    requires { ⌜ length (now cells) / 7 * 35 ≤ low ⌝ }
-    ensures { λ r. ⌜ ((ws : List ℕ) → Building (now (work .entry)) (now (cells .entry)) ws (length (now (cells .entry)) / 7) high low 0 → Standing (now (work .exit)) (r .top) (r .node) (balanced (handed-in (now (cells .entry)) ws))) ⌝ }
+    requires { ⌜ ((ws : List ℕ) × Building (now work) (now cells) ws (length (now cells) / cell-width) high low 0) ⌝ }
+    requires { ⌜ length (now cells) / cell-width * 35 ≤ low ⌝ }
+    ensures { λ r. ⌜ ((ws : List ℕ) → Building (now (work .entry)) (now (cells .entry)) ws (length (now (cells .entry)) / cell-width) high low 0 → Standing (now (work .exit)) (r .top) (r .node) (balanced (handed-in (now (cells .entry)) ws))) ⌝ }
 {
     let count = cells[5];
     if count <= 8 {
         return Made {
             top: high,
-            node: high - 10,
+            node: high - NODE_WIDTH,
         };
     }
     let kids = node_of(high, cells[4]);
@@ -174,8 +179,8 @@ fn write_out(work: &mut [u32], top: u32, root: u32, out: &mut [u32], packed: &mu
     requires { ⌜ ((ts : Trees) × Standing (now work) top root ts) ⌝ }
     ensures { λ r. ⌜ ((ts : Trees) → Standing (now (work .entry)) top root ts → record { outcome = balanced-outcome r; outputs = now (out .exit) ∷ now (packed .exit) ∷ [] } ≡ settled-tree ts (now (out .entry)) (now (packed .entry))) ⌝ }
 {
-    let cells = words::index(store::tell(&*work, root, 6));
-    let words = words::index(store::tell(&*work, root, 7));
+    let cells = words::index(store::tell(&*work, root, NODE_CELLS));
+    let words = words::index(store::tell(&*work, root, NODE_WORDS));
     if out.len() / CELL_WIDTH < cells {
         return Balanced::Refused(12, 0);
     }
@@ -199,7 +204,7 @@ fn balance_accepted(
     ensures { λ r. ⌜ record { outcome = balanced-outcome r; outputs = now (out .exit) ∷ now (packed .exit) ∷ [] } ≡ settled-tree (balanced (handed-in (now (cells .entry)) (now (words .entry)))) (now (out .entry)) (now (packed .entry)) ⌝ }
 {
     let n = cells.len() / CELL_WIDTH;
-    let end = ((n + words.len() / 4) * 96 + 96) as u32;
+    let end = ((n + words.len() / RECORD_WIDTH) * 96 + 96) as u32;
     let low = stage_words(words, work, end);
     note_bases(cells, work);
     let high = (n * 11) as u32;
@@ -231,7 +236,7 @@ pub fn balance(
     if let words::Found::At(at) = cells::tree_check(cells, words, types, 0, true, work) {
         return Balanced::Refused(15, at);
     }
-    if MOST_ITEMS < cells.len() / CELL_WIDTH + words.len() / 4 {
+    if MOST_ITEMS < cells.len() / CELL_WIDTH + words.len() / RECORD_WIDTH {
         return Balanced::Refused(12, 0);
     }
     balance_accepted(cells, words, work, out, packed)

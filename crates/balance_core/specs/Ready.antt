@@ -9,7 +9,7 @@ use lib.ListN.{length, getD}
 use Rattle.tree.specs.Trees.{Trees, _⊕_, siblings}
 use Rattle.tree.specs.Cells.{kind, id-word}
 use Rattle.tree.specs.Balance.{total, share, divide, joined, balance}
-use Rattle.store.specs.Store.{Holds, Same}
+use Rattle.store.specs.Store.{Holds, Same, node-width, node-id, node-start, node-length, node-next}
 use Rattle.balance_core.specs.Rows.{Ends}
 
 -- one tree, whose later siblings do not count, and a list to stand before
@@ -21,7 +21,7 @@ pub record CopyReady (w : List ℕ) (top node next : ℕ) : Type 0 where
   pub rest : Trees
   pub live : 0 < base
   pub above : base ≤ top
-  pub room : top + 10 ≤ low
+  pub room : top + node-width ≤ low
   pub inside : low ≤ length w
   pub fits : low ≤ 4294967295
   pub one : siblings first ≡ 1
@@ -30,19 +30,19 @@ pub record CopyReady (w : List ℕ) (top node next : ℕ) : Type 0 where
 
 -- the tree stands again, before that list
 pub record Copied (w w′ : List ℕ) (top node next rtop rnode : ℕ) : Type 0 where
-  pub top-is : rtop ≡ top + 10
-  pub kept : Same w w′ 0 top (top + 10)
-  pub holds : (p : CopyReady w top node next) → Holds w′ (p .base) (top + 10) (p .low) rnode (p .first ⊕ p .rest)
+  pub top-is : rtop ≡ top + node-width
+  pub kept : Same w w′ 0 top (top + node-width)
+  pub holds : (p : CopyReady w top node next) → Holds w′ (p .base) (top + node-width) (p .low) rnode (p .first ⊕ p .rest)
 
 -- is a list one tree of this type, start and length, by what its node tells?
 abbrev pub alone : (w : List ℕ) (n kind id start length : ℕ) → Bool
 alone w n k i s l =
     cond (eqb n 0) false
-    (cond (eqb (getD w (n + 5) 0) 0)
+    (cond (eqb (node-next w n) 0)
     (cond (eqb k (getD w (n + 0) 0))
-    (cond (eqb i (getD w (n + 1) 0))
-    (cond (eqb s (getD w (n + 2) 0))
-    (cond (eqb l (getD w (n + 3) 0)) true false) false) false) false) false)
+    (cond (eqb i (node-id w n))
+    (cond (eqb s (node-start w n))
+    (cond (eqb l (node-length w n)) true false) false) false) false) false)
 
 -- children `ts` to be put under a tree, and a list to stand before
 pub record JoinReady (w : List ℕ) (top node kd i next : ℕ) : Type 0 where
@@ -53,7 +53,7 @@ pub record JoinReady (w : List ℕ) (top node kd i next : ℕ) : Type 0 where
   pub rest : Trees
   pub live : 0 < base
   pub above : base ≤ top
-  pub room : top + 10 ≤ low
+  pub room : top + node-width ≤ low
   pub inside : low ≤ length w
   pub fits : low ≤ 4294967295
   pub kind-is : kd ≡ kind type
@@ -63,9 +63,9 @@ pub record JoinReady (w : List ℕ) (top node kd i next : ℕ) : Type 0 where
 
 -- the tree, or the one child that equals it, stands before that list
 pub record Joined (w w′ : List ℕ) (top node kd i s l next rtop rnode : ℕ) : Type 0 where
-  pub top-is : rtop ≡ top + 10
-  pub kept : Same w w′ 0 top (top + 10)
-  pub holds : (p : JoinReady w top node kd i next) → Holds w′ (p .base) (top + 10) (p .low) rnode (joined (p .type) s l (p .ts) ⊕ p .rest)
+  pub top-is : rtop ≡ top + node-width
+  pub kept : Same w w′ 0 top (top + node-width)
+  pub holds : (p : JoinReady w top node kd i next) → Holds w′ (p .base) (top + node-width) (p .low) rnode (joined (p .type) s l (p .ts) ⊕ p .rest)
 
 -- k siblings to be divided under the share m, of this size, and a list to stand before. Nodes are added from `top` up,
 -- groups wait below `stack`: 24 words for each unit of size are free between the two.
@@ -97,7 +97,7 @@ pub record DivideReady (w : List ℕ) (top stack node k kd i m size next : ℕ) 
 pub record Divided (w w′ : List ℕ) (top stack node k kd i m size next rtop rnode : ℕ) : Type 0 where
   pub grown : top ≤ rtop
   pub kept : Same w w′ 0 top stack
-  pub used : rtop + 10 ≤ top + 20 * size
+  pub used : rtop + node-width ≤ top + 20 * size
   pub used-many : 2 ≤ k → rtop + 20 ≤ top + 20 * size
   pub holds : (p : DivideReady w top stack node k kd i m size next)
       → Holds w′ (p .base) rtop (p .low) rnode (divide (suc (total (p .type) (p .us))) (p .type) m (p .us) ⊕ p .rest)
@@ -114,6 +114,6 @@ pub record Balanced (w w′ : List ℕ) (top stack node k kd i okd oi s l size n
   pub grown : top ≤ rtop
   pub kept : Same w w′ 0 top stack
   pub used : rtop ≤ top + 20 * size
-  pub used-many : 2 ≤ k → rtop + 10 ≤ top + 20 * size
+  pub used-many : 2 ≤ k → rtop + node-width ≤ top + 20 * size
   pub holds : (p : BalanceReady w top stack node k kd i okd oi size next)
       → Holds w′ (p .row .base) rtop (p .row .low) rnode (balance (p .own) (p .row .type) s l (p .row .us) ⊕ p .row .rest)

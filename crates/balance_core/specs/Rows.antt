@@ -9,16 +9,16 @@ use lib.ListN.{length, getD}
 use Rattle.tree.specs.Trees.{Trees, nil, tree, part, _⊕_, siblings, last-end}
 use Rattle.tree.specs.Cells.{kind, id-word}
 use Rattle.tree.specs.Balance.{total, groups}
-use Rattle.store.specs.Store.{Holds, Readable, liked}
+use Rattle.store.specs.Store.{Holds, Readable, liked, node-width, node-kind, node-id, node-first}
 
 -- a node's balanced size under a type, by what its words tell
 abbrev pub sized : (w : List ℕ) (n kind id : ℕ) → ℕ
-sized w n k i = cond (eqb (getD w n 0) k) (cond (eqb (getD w (n + 1) 0) i) (max 1 (liked w (getD w (n + 4) 0) k i)) 1) 1
+sized w n k i = cond (eqb (node-kind w n) k) (cond (eqb (node-id w n) i) (max 1 (liked w (node-first w n) k i)) 1) 1
 
 -- a node that can be read, and its children where it is of this kind
 pub record Sizable (w : List ℕ) (n kind : ℕ) : Type 0 where
-  pub inside : n + 10 ≤ length w
-  pub kids : getD w n 0 ≡ kind → Readable w (getD w (n + 4) 0)
+  pub inside : n + node-width ≤ length w
+  pub kids : node-kind w n ≡ kind → Readable w (node-first w n)
 
 -- all ends fit a word
 abbrev pub Ends : Trees → Type 0

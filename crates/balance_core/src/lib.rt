@@ -5,12 +5,20 @@ ghost use mathlib.Core.Path.{_≡_};
 ghost use Prim.Native.Nat.{ℕ, _+_, _-_, _*_, _/_, _≤_, _<_};
 ghost use mathlib.Core.List.{[], _∷_};
 ghost use lib.ListN.{length, getD};
-ghost use Rattle.store.specs.Store.{word, Readable};
+ghost use Rattle.store.specs.Store.{word, Readable, node-width};
 ghost use Rattle.tree.specs.Balance.{total, share};
 ghost use Rattle.words.specs.Words.{put};
 ghost use Rattle.balance_core.specs.Rows.{sized, Sizable, Row, Grouped};
 ghost use Rattle.balance_core.specs.Pending.{GroupAt, PushReady, Pushed};
 ghost use Rattle.balance_core.specs.Ready.{CopyReady, Copied, alone, JoinReady, Joined, DivideReady, Divided, BalanceReady, Balanced};
+use store::NODE_FIRST;
+use store::NODE_ID;
+use store::NODE_KIND;
+use store::NODE_LENGTH;
+use store::NODE_NEXT;
+use store::NODE_START;
+use store::NODE_TREES;
+use store::NODE_WIDTH;
 
 // The first group of a row: how many trees, their size, the list after them and their end.
 pub struct Front {
@@ -27,8 +35,8 @@ fn balanced_node_size(work: &[u32], node: u32, kind: u32, id: u32) -> u32
 {
     let n = words::index(node);
     if work[n] == kind {
-        if work[n + 1] == id {
-            return store::at_least_one(store::like(work, work[n + 4], kind, id));
+        if work[n + NODE_ID] == id {
+            return store::at_least_one(store::like(work, work[n + NODE_FIRST], kind, id));
         }
         return 1;
     }
@@ -37,8 +45,8 @@ fn balanced_node_size(work: &[u32], node: u32, kind: u32, id: u32) -> u32
 
 // Word k of a node.
 fn word_at(work: &[u32], node: u32, k: usize) -> u32
-    requires { ⌜ node + 10 ≤ length (now work) ⌝ }
-    requires { ⌜ k < 10 ⌝ }
+    requires { ⌜ node + node-width ≤ length (now work) ⌝ }
+    requires { ⌜ k < node-width ⌝ }
     ensures { λ r. ⌜ r ≡ getD (now (work .entry)) (node + k) 0 ⌝ }
 {
     work[words::index(node) + k]
@@ -59,8 +67,8 @@ fn first_group(work: &[u32], node: u32, k: u32, kind: u32, id: u32, m: u32) -> F
 {
     let mut count: u32 = 1;
     let mut size = balanced_node_size(work, node, kind, id);
-    let mut end = store::sum(word_at(work, node, 2), word_at(work, node, 3));
-    let mut next = word_at(work, node, 5);
+    let mut end = store::sum(word_at(work, node, NODE_START), word_at(work, node, NODE_LENGTH));
+    let mut next = word_at(work, node, NODE_NEXT);
     while count < k {
         let grown = store::sum(size, balanced_node_size(work, next, kind, id));
         if m <= grown {
@@ -72,8 +80,8 @@ fn first_group(work: &[u32], node: u32, k: u32, kind: u32, id: u32, m: u32) -> F
             };
         }
         size = grown;
-        end = store::sum(word_at(work, next, 2), word_at(work, next, 3));
-        next = word_at(work, next, 5);
+        end = store::sum(word_at(work, next, NODE_START), word_at(work, next, NODE_LENGTH));
+        next = word_at(work, next, NODE_NEXT);
         count += 1;
     }
     Front {
@@ -105,21 +113,21 @@ fn copy(work: &mut [u32], top: u32, node: u32, next: u32) -> Made
     requires { ⌜ CopyReady (now work) top node next ⌝ }
     ensures { λ r. ⌜ Copied (now (work .entry)) (now (work .exit)) top node next (r .top) (r .node) ⌝ }
 {
-    let kind = word_at(work, node, 0);
-    let id = word_at(work, node, 1);
-    let start = word_at(work, node, 2);
-    let length = word_at(work, node, 3);
-    let first = word_at(work, node, 4);
+    let kind = word_at(work, node, NODE_KIND);
+    let id = word_at(work, node, NODE_ID);
+    let start = word_at(work, node, NODE_START);
+    let length = word_at(work, node, NODE_LENGTH);
+    let first = word_at(work, node, NODE_FIRST);
     if kind == 2 {
         let made = store::push_part(work, top, start, length, first, id, next);
         return Made {
-            top: top + 10,
+            top: top + NODE_WIDTH,
             node: made,
         };
     }
     let made = store::push_tree(work, top, kind, id, start, length, first, next);
     Made {
-        top: top + 10,
+        top: top + NODE_WIDTH,
         node: made,
     }
 }
@@ -132,19 +140,19 @@ fn is_one(work: &[u32], node: u32, kind: u32, id: u32, start: u32, length: u32) 
     if node == 0 {
         return false;
     }
-    if word_at(work, node, 5) != 0 {
+    if word_at(work, node, NODE_NEXT) != 0 {
         return false;
     }
-    if word_at(work, node, 0) != kind {
+    if word_at(work, node, NODE_KIND) != kind {
         return false;
     }
-    if word_at(work, node, 1) != id {
+    if word_at(work, node, NODE_ID) != id {
         return false;
     }
-    if word_at(work, node, 2) != start {
+    if word_at(work, node, NODE_START) != start {
         return false;
     }
-    if word_at(work, node, 3) != length {
+    if word_at(work, node, NODE_LENGTH) != length {
         return false;
     }
     true
@@ -169,7 +177,7 @@ fn join(
     }
     let made = store::push_tree(work, top, kind, id, start, length, node, next);
     Made {
-        top: top + 10,
+        top: top + NODE_WIDTH,
         node: made,
     }
 }
@@ -268,8 +276,8 @@ fn divide_balanced(
         sp += 4;
         if g.count == 1 {
             if m < g.size {
-                let kids = word_at(work, g.node, 4);
-                let n = store::tell(work, kids, 8);
+                let kids = word_at(work, g.node, NODE_FIRST);
+                let n = store::tell(work, kids, NODE_TREES);
                 sp = push_groups(work, sp, kids, n, kind, id, m);
                 left -= 1;
                 continue;
@@ -280,7 +288,7 @@ fn divide_balanced(
             left -= g.size;
             continue;
         }
-        let start = word_at(work, g.node, 2);
+        let start = word_at(work, g.node, NODE_START);
         let length = words::less(g.end, start);
         let own = Parent {
             kind: kind,

@@ -7,18 +7,18 @@ use Prim.Native.Nat.{ℕ, suc, _+_, _-_, _*_, _/_, _≤_, _<_}
 use lib.Dec.{eqb}
 use lib.ListN.{length}
 use Rattle.words.specs.Outcome.{Result, settled as settled-call}
-use Rattle.words.specs.Words.{front, end-of}
+use Rattle.words.specs.Words.{front, end-of, record-width}
 use Rattle.records.specs.Check.{Accepted}
 use Rattle.records.specs.Parse.{parse}
 use Rattle.tree.specs.Trees.{Trees, nil, tree, nodes}
 use Rattle.tree.specs.Cells.{tree-cells, packed}
 use Rattle.tree.specs.Build.{build}
 use Rattle.tree.specs.Calls.{room}
-use Rattle.store.specs.Store.{Holds}
+use Rattle.store.specs.Store.{Holds, node-width}
 
 -- where the last record ends; without one, S
 abbrev pub list-end : (S : ℕ) → List ℕ → ℕ
-list-end S w = cond (eqb (length w / 4) 0) S (end-of w (length w / 4 - 1))
+list-end S w = cond (eqb (length w / record-width) 0) S (end-of w (length w / record-width - 1))
 
 -- an accepted list, and a work slice of just the words that 11 asks
 pub record Listed (b S : ℕ) (w : List ℕ) (work : ℕ) : Type 0 where
@@ -26,7 +26,7 @@ pub record Listed (b S : ℕ) (w : List ℕ) (work : ℕ) : Type 0 where
   pub top : ℕ
   pub accepted : Accepted T b top S w
   pub start-fits : S ≤ 4294967295
-  pub size : work ≡ 96 * (length w / 4) + 96
+  pub size : work ≡ 96 * (length w / record-width) + 96
 
 -- first-level trees that can be put under a top and written out
 pub record Writes (l : List ℕ) (top kids : ℕ) : Type 0 where
@@ -35,7 +35,7 @@ pub record Writes (l : List ℕ) (top kids : ℕ) : Type 0 where
   pub trees : Trees
   pub live : 0 < base
   pub above : base ≤ top
-  pub free : top + 10 + 2 * suc (nodes trees) ≤ low
+  pub free : top + node-width + 2 * suc (nodes trees) ≤ low
   pub inside : low ≤ length l
   pub fits : low ≤ 4294967295
   pub holds : Holds l base top low kids trees

@@ -8,7 +8,10 @@ ghost use Rattle.tree.specs.Calls.{build-call};
 ghost use Rattle.take.specs.Loop.{Taken-all};
 ghost use Rattle.build.specs.Answer.{given-length, built-outcome};
 ghost use Rattle.build.specs.Building.{list-end, Listed, Writes, written-out, built};
+use store::NODE_CELLS;
+use store::NODE_WORDS;
 use tree::CELL_WIDTH;
+use words::RECORD_WIDTH;
 
 // A given length of the whole tree, or none: then it is the last child's end.
 pub enum Given {
@@ -28,7 +31,7 @@ pub enum Built {
 fn end_of_list(records: &[u32], start: u32) -> u32
     ensures { λ r. ⌜ r ≡ list-end start (now (records .entry)) ⌝ }
 {
-    let n = records.len() / 4;
+    let n = records.len() / RECORD_WIDTH;
     if n == 0 {
         return start;
     }
@@ -60,7 +63,7 @@ fn read_list(
     ensures { λ r. ⌜ Taken-all «first_repeat» bound start (now (records .entry)) (now (work .exit)) (r .top) (r .low) (r .kids) ⌝ }
 {
     scan::count_repeats(records, first_repeat, work);
-    let n = records.len() / 4;
+    let n = records.len() / RECORD_WIDTH;
     let tree = take::Node {
         id: 0,
         start: start,
@@ -104,8 +107,8 @@ fn write_result(
     ensures { λ r. ⌜ ((q : Writes (now (work .entry)) (first .top) (first .kids)) → record { outcome = built-outcome r; outputs = now (cells .exit) ∷ now (words .exit) ∷ [] } ≡ written-out id start length (q .trees) (now (cells .entry)) (now (words .entry))) ⌝ }
 {
     let kids = first.kids;
-    let count = words::index(store::tell(&*work, kids, 6)) + 1;
-    let packed = words::index(store::tell(&*work, kids, 7));
+    let count = words::index(store::tell(&*work, kids, NODE_CELLS)) + 1;
+    let packed = words::index(store::tell(&*work, kids, NODE_WORDS));
     if cells.len() / CELL_WIDTH < count {
         return Built::Refused(12, 0);
     }

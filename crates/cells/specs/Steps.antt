@@ -6,20 +6,20 @@ use mathlib.Core.List.{List}
 use Prim.Native.Nat.{ℕ, _+_, _-_, _*_, _≤_, _<_}
 use lib.Dec.{ltb, leb, eqb}
 use lib.ListN.{length, getD, drop}
-use Rattle.tree.specs.Cells.{cell-width}
+use Rattle.tree.specs.Cells.{cell-width, cell-kind, cell-id, cell-position, cell-length, cell-first, cell-count, cell-next}
 use Rattle.rules.specs.Cell.{Cell, cells-of, first-child}
 use Rattle.rules.specs.Lowest.{chains, any-part, top-broken, kind-broken, id-broken, link-broken, part-broken}
 
 -- a cell read from words; i counts from 0
 abbrev pub cell-at : List ℕ → ℕ → Cell
 cell-at cs i = record {
-  kind = getD cs (i * cell-width) 0;
-  id = getD cs (i * cell-width + 1) 0;
-  position = getD cs (i * cell-width + 2) 0;
-  len = getD cs (i * cell-width + 3) 0;
-  first = getD cs (i * cell-width + 4) 0;
-  count = getD cs (i * cell-width + 5) 0;
-  next = getD cs (i * cell-width + 6) 0;
+  kind = cell-kind cs i;
+  id = cell-id cs i;
+  position = cell-position cs i;
+  len = cell-length cs i;
+  first = cell-first cs i;
+  count = cell-count cs i;
+  next = cell-next cs i;
 }
 
 -- a 32-bit word at a wider type, with its bound

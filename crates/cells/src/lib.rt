@@ -7,6 +7,7 @@ ghost use mathlib.Core.List.{[], _∷_};
 ghost use Prim.Native.Nat.{ℕ, _+_, _-_, _*_, _<_, _≤_};
 ghost use lib.ListN.{length, getD};
 ghost use lib.Dec.{ltb, eqb};
+ghost use Rattle.words.specs.Words.{record-width};
 ghost use Rattle.words.specs.Answer.{place-found};
 ghost use Rattle.part.specs.Part.{own-fault};
 ghost use Rattle.tree.specs.Cells.{cell-width};
@@ -25,6 +26,7 @@ use tree::ID;
 use tree::LENGTH;
 use tree::NEXT;
 use tree::POSITION;
+use words::RECORD_WIDTH;
 
 // The largest word.
 const MOST: u32 = 4294967295;
@@ -138,10 +140,10 @@ fn staying(work: &[u32], at: usize, top: usize, off: usize) -> usize
 
 // 17 to 19 at record i, by itself.
 fn entry_broken(part: &[u16], types: u32, i: usize) -> bool
-    requires { ⌜ i * 4 + 4 ≤ length (now part) ⌝ }
+    requires { ⌜ i * record-width + record-width ≤ length (now part) ⌝ }
     ensures { λ r. ⌜ r ≡ not (eqb (own-fault (now (part .entry)) types i) 0) ⌝ }
 {
-    let at = i * 4;
+    let at = i * RECORD_WIDTH;
     if types <= word(part[at]) {
         return true;
     }
@@ -149,13 +151,13 @@ fn entry_broken(part: &[u16], types: u32, i: usize) -> bool
         return true;
     }
     let stop = words::wide(part[at + 3]);
-    if stop < at + 4 {
+    if stop < at + RECORD_WIDTH {
         return true;
     }
     if part.len() < stop {
         return true;
     }
-    stop % 4 != 0
+    stop % RECORD_WIDTH != 0
 }
 
 // 20, and an end past the end of what is around: t records, or else the part of the length `len`.
@@ -191,10 +193,10 @@ fn part_kept(part: &[u16], types: u32, len: u32, work: &mut [u32], at: usize) ->
     ensures { λ r. ⌜ r ≡ part-kept types len (now (part .entry)) ⌝ }
     ensures { λ _. ⌜ Front at (now (work .entry)) (now (work .exit)) ⌝ }
 {
-    if part.len() % 4 != 0 {
+    if part.len() % RECORD_WIDTH != 0 {
         return false;
     }
-    let n = part.len() / 4;
+    let n = part.len() / RECORD_WIDTH;
     let mut top: usize = 0;
     let mut low: u32 = 0;
     let mut i: usize = 0;
@@ -202,10 +204,10 @@ fn part_kept(part: &[u16], types: u32, len: u32, work: &mut [u32], at: usize) ->
         if entry_broken(part, types, i) {
             return false;
         }
-        let start = word(part[i * 4 + 1]);
-        let end = word(part[i * 4 + 2]);
-        let stop = word(part[i * 4 + 3]);
-        let t = staying(&*work, at, top, i * 4);
+        let start = word(part[i * RECORD_WIDTH + 1]);
+        let end = word(part[i * RECORD_WIDTH + 2]);
+        let stop = word(part[i * RECORD_WIDTH + 3]);
+        let t = staying(&*work, at, top, i * RECORD_WIDTH);
         if around_broken(&*work, at, t, len, stop, end) {
             return false;
         }
@@ -584,7 +586,7 @@ pub fn too_little_work(cells: &[u32], words: &[u16], work: &[u32]) -> bool
     if work.len() < 96 {
         return true;
     }
-    (work.len() - 96) / 96 < cells.len() / CELL_WIDTH + words.len() / 4
+    (work.len() - 96) / 96 < cells.len() / CELL_WIDTH + words.len() / RECORD_WIDTH
 }
 
 // The tree check, after refusals 1 and 11: the lowest cell that breaks a cell rule; 0 where the slice is empty or no multiple of

@@ -5,9 +5,10 @@ use mathlib.Core.Bool.{true, false, cond}
 use mathlib.Core.List.{List}
 use mathlib.Core.Option.{Option}
 use Prim.Native.Nat.{ℕ, suc, _+_, _-_, _*_, _≤_, _<_, zero}
-use lib.ListN.{length, getD}
+use lib.ListN.{length}
 use Rattle.tree.specs.Items.{Items, nil, mark, span, same, repeats, records}
 use lib.Dec.{leb}
+use Rattle.words.specs.Words.{record-width, id-of, start-of, end-of, last-of}
 
 -- The records from number lo up to p, without p, spell these items from the last one back: a mark is its record alone, a
 -- span its record behind its kids.
@@ -16,19 +17,19 @@ Spells w lo p nil = lo ≡ p
 Spells w lo p (mark i s e n rest) =
     record {
       room : lo < p;
-      id : getD w ((p - 1) * 4) 0 ≡ i;
-      start : getD w ((p - 1) * 4 + 1) 0 ≡ s;
-      end : getD w ((p - 1) * 4 + 2) 0 ≡ e;
-      size : getD w ((p - 1) * 4 + 3) 0 ≡ n;
+      id : id-of w (p - 1) ≡ i;
+      start : start-of w (p - 1) ≡ s;
+      end : end-of w (p - 1) ≡ e;
+      size : last-of w (p - 1) ≡ n;
       rest : Spells w lo (p - 1) rest;
     }
 Spells w lo p (span i s e kids rest) =
     record {
       room : lo + suc (records kids) ≤ p;
-      id : getD w ((p - 1) * 4) 0 ≡ i;
-      start : getD w ((p - 1) * 4 + 1) 0 ≡ s;
-      end : getD w ((p - 1) * 4 + 2) 0 ≡ e;
-      size : getD w ((p - 1) * 4 + 3) 0 ≡ 4 * suc (records kids);
+      id : id-of w (p - 1) ≡ i;
+      start : start-of w (p - 1) ≡ s;
+      end : end-of w (p - 1) ≡ e;
+      size : last-of w (p - 1) ≡ record-width * suc (records kids);
       inner : Spells w (p - suc (records kids)) (p - 1) kids;
       rest : Spells w lo (p - suc (records kids)) rest;
     }
@@ -48,7 +49,7 @@ Passed F (span i s e kids rest) = record { inner : Passed F kids; rest : Passed 
 
 -- What stands between record lo and the cursor behind record p - 1, under the repeat id `own`.
 pub record Stands (F : ℕ) (own : Option ℕ) (w : List ℕ) (lo p : ℕ) (its : Items) : Type 0 where
-  pub within : p * 4 ≤ length w
+  pub within : p * record-width ≤ length w
   pub spells : Spells w lo p its
   pub marked : Marked F own its
 
@@ -61,4 +62,4 @@ pub record Standing (F : ℕ) (own : Option ℕ) (w : List ℕ) (lo p : ℕ) : T
 -- the words of the repeat records among the first n
 unfoldable pub skips : (F : ℕ) (w : List ℕ) (n : ℕ) → ℕ
 skips F w zero = 0
-skips F w (suc n) = skips F w n + cond (leb F (getD w (n * 4) 0)) 4 0
+skips F w (suc n) = skips F w n + cond (leb F (id-of w n)) record-width 0

@@ -5,14 +5,15 @@ use mathlib.Core.List.{List, [], _∷_}
 use mathlib.Core.Option.{Option}
 use mathlib.Core.Bool.{true, false}
 use Prim.Native.Nat.{ℕ, zero, suc, _+_, _-_, _*_, _≤_, _<_}
-use lib.ListN.{length, getD}
+use lib.ListN.{length}
+use Rattle.words.specs.Words.{id-of, start-of, end-of, last-of}
 use Rattle.tree.specs.Groups.{Gathered, gather}
 use Rattle.tree.specs.Flat.{Record, rec, hold, held-end, flat-part, flat}
 use Rattle.tree.specs.Ordered.{Room}
 
 -- record number j
 abbrev pub record-at : (w : List ℕ) (j : ℕ) → Record
-record-at w j = rec (getD w (j * 4) 0) (getD w (j * 4 + 1) 0) (getD w (j * 4 + 2) 0) (getD w (j * 4 + 3) 0)
+record-at w j = rec (id-of w j) (start-of w j) (end-of w j) (last-of w j)
 
 -- k records from number lo on, the last one first
 unfoldable pub from-back : (w : List ℕ) (lo k : ℕ) → List Record

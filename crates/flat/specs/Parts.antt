@@ -4,7 +4,8 @@ use mathlib.Core.List.{List, [], _∷_}
 use mathlib.Core.Option.{Option}
 use mathlib.Core.Bool.{true, false}
 use Prim.Native.Nat.{ℕ, _+_, _-_, _*_, _≤_, _<_}
-use lib.ListN.{length, getD}
+use lib.ListN.{length}
+use Rattle.words.specs.Words.{record-width, id-of, start-of, end-of}
 use Rattle.tree.specs.Trees.{Trees}
 use Rattle.tree.specs.Groups.{Gathered, gather}
 use Rattle.tree.specs.Flat.{flat-words, flat-part, flat}
@@ -15,34 +16,34 @@ use Rattle.tree.specs.Ordered.{Sorted}
 
 -- record number j can be staged in a part that starts at q, with this end index: its words have 16 bits
 pub record RecordReady (w l : List ℕ) (j q index low : ℕ) : Type 0 where
-  pub within : j * 4 + 4 ≤ length w
-  pub room : 4 ≤ low
+  pub within : j * record-width + record-width ≤ length w
+  pub room : record-width ≤ low
   pub inside : low ≤ length l
-  pub id : getD w (j * 4) 0 < 65536
-  pub start : getD w (j * 4 + 1) 0 - q < 65536
-  pub end : getD w (j * 4 + 2) 0 - q < 65536
+  pub id : id-of w j < 65536
+  pub start : start-of w j - q < 65536
+  pub end : end-of w j - q < 65536
   pub last : index < 65536
 
 -- its four words stand below those that stood from `low` on
 pub record StagedRecord (w l l′ : List ℕ) (j q index low r : ℕ) : Type 0 where
-  pub address : r + 4 ≡ low
+  pub address : r + record-width ≡ low
   pub kept : Same l l′ 0 r low
   pub holds : (ws : List ℕ) → Staged l low low ws
-      → Staged l′ r r (getD w (j * 4) 0 ∷ (getD w (j * 4 + 1) 0 - q) ∷ (getD w (j * 4 + 2) 0 - q) ∷ index ∷ ws)
+      → Staged l′ r r (id-of w j ∷ (start-of w j - q) ∷ (end-of w j - q) ∷ index ∷ ws)
 
 -- the held ones of the records from `to` up to p can be staged in a part that starts at q
 pub record StageReady (w l : List ℕ) (p to q count low : ℕ) : Type 0 where
-  pub within : p * 4 ≤ length w
+  pub within : p * record-width ≤ length w
   pub below : to ≤ p
   pub counted : count ≡ length (held-in w to (p - to))
   pub few : count ≤ 16383
   pub short : Short (flat-words q 0 (held-in w to (p - to)))
-  pub room : 4 * count ≤ low
+  pub room : record-width * count ≤ low
   pub inside : low ≤ length l
 
 -- their words stand from r up to `low`
 pub record StagedFlat (w l l′ : List ℕ) (p to q low r : ℕ) : Type 0 where
-  pub address : r + 4 * length (held-in w to (p - to)) ≡ low
+  pub address : r + record-width * length (held-in w to (p - to)) ≡ low
   pub kept : Same l l′ 0 r low
   pub staged : Staged l′ r r (flat-words q 0 (held-in w to (p - to)))
 
@@ -54,7 +55,7 @@ pub record NodeReady (w l : List ℕ) (p lo b top low loose : ℕ) : Type 0 wher
   pub types : T ≤ 65536
   pub bound : b ≤ 65535
   pub sorted : Sorted T s e (from-back w lo (p - lo))
-  pub within : p * 4 ≤ length w
+  pub within : p * record-width ≤ length w
   pub some-record : lo < p
   pub room : top + 14 * (p - lo) ≤ low
   pub inside : low ≤ length l

@@ -5,10 +5,13 @@ ghost use mathlib.Core.Bool.{cond, _&&_};
 ghost use Prim.Native.Nat.{_+_, _*_, _≤_, _<_};
 ghost use lib.ListN.{length};
 ghost use lib.Dec.{eqb, ltb};
+ghost use Rattle.words.specs.Words.{record-width};
 ghost use Rattle.cursor.specs.Own.{own-of};
 ghost use Rattle.flat.specs.Back.{Extends};
 ghost use Rattle.flat.specs.Parts.{RecordReady, StagedRecord, StageReady, StagedFlat, NodeReady, TookFlat};
 ghost use Rattle.flat.specs.Taking.{FlatReady, TakenFlat};
+use store::NODE_WIDTH;
+use words::RECORD_SIZE;
 
 // How far a flat part reaches: the place before it, how many records it holds, the number of the leftmost one, and where the
 // first one held ends.
@@ -61,7 +64,7 @@ fn held(x: Extent, q: usize, end: u32) -> Extent
 // Reads back from p until 16,383 records are held or one of them starts before the first one's end less the bound; records
 // above 4 words are dropped.
 fn flat_extent(records: &[u32], p: usize, lo: usize, bound: u32) -> Extent
-    requires { ⌜ p * 4 ≤ length (now records) ⌝ }
+    requires { ⌜ p * record-width ≤ length (now records) ⌝ }
     requires { ⌜ lo ≤ p ⌝ }
     ensures { λ r. ⌜ Extends (now (records .entry)) p lo bound (r .p) (r .count) (r .first) (r .end) ⌝ }
 {
@@ -76,7 +79,7 @@ fn flat_extent(records: &[u32], p: usize, lo: usize, bound: u32) -> Extent
             return x;
         }
         let q = records::back(x.p);
-        if 4 < records::size_at(records, q) {
+        if RECORD_SIZE < records::size_at(records, q) {
             x = dropped(x, q);
             continue;
         }
@@ -124,16 +127,16 @@ fn stage_flat(
     ensures { λ r. ⌜ StagedFlat (now (records .entry)) (now (work .entry)) (now (work .exit)) p to start low r ⌝ }
 {
     let mut at = p;
-    let mut left = count * 4;
+    let mut left = count * RECORD_SIZE;
     let mut below = low;
     while to < at {
         let q = records::back(at);
-        if 4 < records::size_at(records, q) {
+        if RECORD_SIZE < records::size_at(records, q) {
             at = q;
             continue;
         }
         below = stage_record(records, q, start, left, work, below);
-        left -= 4;
+        left -= RECORD_SIZE;
         at = q;
     }
     below
@@ -182,7 +185,7 @@ fn push_flat(
         let made = store::push_tree(work, top, 1, id, start, length, 0, loose);
         return FlatNode {
             p: x.p,
-            top: top + 10,
+            top: top + NODE_WIDTH,
             low: low,
             loose: made,
         };
@@ -191,7 +194,7 @@ fn push_flat(
     let made = store::push_part(work, top, start, length, from, count * 4, loose);
     FlatNode {
         p: x.p,
-        top: top + 10,
+        top: top + NODE_WIDTH,
         low: from,
         loose: made,
     }

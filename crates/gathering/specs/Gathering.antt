@@ -10,7 +10,7 @@ use Rattle.tree.specs.Trees.{Trees, nil, _⊕_, is-nil}
 use Rattle.tree.specs.Items.{repeats}
 use Rattle.tree.specs.Groups.{Gathered, close, pass, rest-closed, finish}
 use Rattle.tree.specs.Balance.{total, balance}
-use Rattle.store.specs.Store.{Holds, Same}
+use Rattle.store.specs.Store.{Holds, Same, node-width}
 use Rattle.balance_core.specs.Rows.{Ends}
 use Rattle.tree.specs.Well.{own-total, Parts, Gathers}
 
@@ -22,10 +22,10 @@ pub record HoldsGathered (w : List ℕ) (base top low groups loose edge : ℕ) (
 
 -- the loose children became a group
 pub record Closed (w w′ : List ℕ) (top i s groups loose edge rtop rgroups rloose redge : ℕ) : Type 0 where
-  pub top-is : rtop ≡ top + 10
-  pub kept : Same w w′ 0 top (top + 10)
-  pub holds : (base low : ℕ) (g : Gathered) → 0 < base → base ≤ top → top + 10 ≤ low → HoldsGathered w base top low groups loose edge g
-      → HoldsGathered w′ base (top + 10) low rgroups rloose redge (close i s g)
+  pub top-is : rtop ≡ top + node-width
+  pub kept : Same w w′ 0 top (top + node-width)
+  pub holds : (base low : ℕ) (g : Gathered) → 0 < base → base ≤ top → top + node-width ≤ low → HoldsGathered w base top low groups loose edge g
+      → HoldsGathered w′ base (top + node-width) low rgroups rloose redge (close i s g)
 
 -- the balanced size that what is gathered may come to under the repeat id `own`, but for a last group
 unfoldable pub due : (own : Option ℕ) → Gathered → ℕ
@@ -34,17 +34,17 @@ due own g = own-total own (g .loose) + total own (g .groups)
 -- a record of the tree's own id i that ends at e was passed over
 pub record PassedOver (w w′ : List ℕ) (top i e b groups loose edge rtop rgroups rloose redge : ℕ) : Type 0 where
   pub grown : top ≤ rtop
-  pub few : rtop ≤ top + 10
-  pub kept : Same w w′ 0 top (top + 10)
-  pub holds : (base low : ℕ) (g : Gathered) → 0 < base → base ≤ top → top + 10 ≤ low → HoldsGathered w base top low groups loose edge g
+  pub few : rtop ≤ top + node-width
+  pub kept : Same w w′ 0 top (top + node-width)
+  pub holds : (base low : ℕ) (g : Gathered) → 0 < base → base ≤ top → top + node-width ≤ low → HoldsGathered w base top low groups loose edge g
       → HoldsGathered w′ base rtop low rgroups rloose redge (pass b i e g)
 
 -- the children left over became a group from the tree's start s
 pub record RestClosed (w w′ : List ℕ) (top i s groups loose edge rtop rgroups rloose redge : ℕ) : Type 0 where
   pub grown : top ≤ rtop
-  pub few : rtop ≤ top + 10
-  pub kept : Same w w′ 0 top (top + 10)
-  pub holds : (base low : ℕ) (g : Gathered) → 0 < base → base ≤ top → top + 10 ≤ low → HoldsGathered w base top low groups loose edge g
+  pub few : rtop ≤ top + node-width
+  pub kept : Same w w′ 0 top (top + node-width)
+  pub holds : (base low : ℕ) (g : Gathered) → 0 < base → base ≤ top → top + node-width ≤ low → HoldsGathered w base top low groups loose edge g
       → HoldsGathered w′ base rtop low rgroups rloose redge (rest-closed i s g)
 
 -- groups of the id to be balanced under a tree from s to e, and a list to stand before

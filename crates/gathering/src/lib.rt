@@ -2,8 +2,10 @@
 // What a tree gathers, closed and finished: the group rule for records of a repeat tree's own id, and `finish_node`.
 ghost use Prim.Native.Nat.{_+_, _≤_, _<_};
 ghost use lib.ListN.{length};
-ghost use Rattle.store.specs.Store.{Readable};
+ghost use Rattle.store.specs.Store.{Readable, node-width};
 ghost use Rattle.gathering.specs.Gathering.{Closed, PassedOver, RestClosed, GroupsReady, GroupsBalanced, FinishReady, Finished};
+use store::NODE_TREES;
+use store::NODE_WIDTH;
 
 // What a tree has gathered: closed groups, the children since then, the last group end.
 pub struct Gathering {
@@ -15,8 +17,8 @@ pub struct Gathering {
 
 // The loose children become a group of the id from `start` to the last group end.
 fn make_repeat_leaf(work: &mut [u32], id: u32, start: u32, g: Gathering) -> Gathering
-    requires { ⌜ g .top + 10 ≤ length (now work) ⌝ }
-    requires { ⌜ g .top + 10 < 4294967296 ⌝ }
+    requires { ⌜ g .top + node-width ≤ length (now work) ⌝ }
+    requires { ⌜ g .top + node-width < 4294967296 ⌝ }
     requires { ⌜ Readable (now work) (g .groups) ⌝ }
     requires { ⌜ Readable (now work) (g .loose) ⌝ }
     ensures { λ r. ⌜ Closed (now (work .entry)) (now (work .exit)) (g .top) id start (g .groups) (g .loose) (g .edge) (r .top) (r .groups) (r .loose) (r .edge) ⌝ }
@@ -27,7 +29,7 @@ fn make_repeat_leaf(work: &mut [u32], id: u32, start: u32, g: Gathering) -> Gath
     let length = words::less(g.edge, start);
     let made = store::push_tree(work, top, 1, id, start, length, loose, groups);
     Gathering {
-        top: top + 10,
+        top: top + NODE_WIDTH,
         groups: made,
         loose: 0,
         edge: start,
@@ -37,8 +39,8 @@ fn make_repeat_leaf(work: &mut [u32], id: u32, start: u32, g: Gathering) -> Gath
 // Passes over a record of the tree's own id: where its end and the bound come to at most the last group end, the children
 // since then form a group.
 pub fn pass_over(work: &mut [u32], id: u32, end: u32, bound: u32, g: Gathering) -> Gathering
-    requires { ⌜ g .top + 10 ≤ length (now work) ⌝ }
-    requires { ⌜ g .top + 10 < 4294967296 ⌝ }
+    requires { ⌜ g .top + node-width ≤ length (now work) ⌝ }
+    requires { ⌜ g .top + node-width < 4294967296 ⌝ }
     requires { ⌜ Readable (now work) (g .groups) ⌝ }
     requires { ⌜ Readable (now work) (g .loose) ⌝ }
     ensures { λ r. ⌜ PassedOver (now (work .entry)) (now (work .exit)) (g .top) id end bound (g .groups) (g .loose) (g .edge) (r .top) (r .groups) (r .loose) (r .edge) ⌝ }
@@ -52,8 +54,8 @@ pub fn pass_over(work: &mut [u32], id: u32, end: u32, bound: u32, g: Gathering) 
 
 // Children left over after a first group form one from the tree's start.
 fn close_rest(work: &mut [u32], id: u32, start: u32, g: Gathering) -> Gathering
-    requires { ⌜ g .top + 10 ≤ length (now work) ⌝ }
-    requires { ⌜ g .top + 10 < 4294967296 ⌝ }
+    requires { ⌜ g .top + node-width ≤ length (now work) ⌝ }
+    requires { ⌜ g .top + node-width < 4294967296 ⌝ }
     requires { ⌜ Readable (now work) (g .groups) ⌝ }
     requires { ⌜ Readable (now work) (g .loose) ⌝ }
     ensures { λ r. ⌜ RestClosed (now (work .entry)) (now (work .exit)) (g .top) id start (g .groups) (g .loose) (g .edge) (r .top) (r .groups) (r .loose) (r .edge) ⌝ }
@@ -79,7 +81,7 @@ fn balance_repeat(
     requires { ⌜ GroupsReady (now work) stack top id start end groups next ⌝ }
     ensures { λ r. ⌜ GroupsBalanced (now (work .entry)) (now (work .exit)) stack top id start end groups next (r .top) (r .node) ⌝ }
 {
-    let k = store::tell(work, groups, 8);
+    let k = store::tell(work, groups, NODE_TREES);
     let size = balance_core::row_size(work, groups, k, 1, id);
     let own = balance_core::Parent {
         kind: 1,
@@ -108,7 +110,7 @@ pub fn finish_node(
         let length = words::less(end, start);
         let made = store::push_tree(work, top, 1, id, start, length, g.loose, next);
         return balance_core::Made {
-            top: top + 10,
+            top: top + NODE_WIDTH,
             node: made,
         };
     }

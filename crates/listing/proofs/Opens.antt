@@ -11,7 +11,7 @@ use native.Mathlib.Numerals.{add-one}
 use lib.Dec.{ltb}
 use lib.ListN.{length, getD, drop, length-append, length-drop}
 use lib.Seq.{getD-drop, drop-drop}
-use Rattle.records.specs.Forest.{line, below}
+use Rattle.records.specs.Forest.{line, depth-below}
 use Rattle.tree.specs.Trees.{Trees, nil, tree, part, nodes, siblings}
 use Rattle.tree.specs.Cells.{cell, absolute, packed, unless-none, kind, id-word, cells}
 use Rattle.tree.specs.Listing.{node-line, node-below, listing}
@@ -163,7 +163,7 @@ own-is F cs i q d (some x) s l a b c e = rw (a, b, c, e) (go (ltb x F))
 -- and the depth below it
 pub below-is : (F : ℕ) (cs : List ℕ) (i d : ℕ) (t : Option ℕ) → getD cs (i * 7) 0 ≡ kind t → getD cs (i * 7 + 1) 0 ≡ id-word t
     → cond (is-listed F cs i) (d + 1) d ≡ node-below F d t
-unfolding is-listed node-below kind id-word below
+unfolding is-listed node-below kind id-word depth-below
 below-is F cs i d none a b = rw a refl
 below-is F cs i d (some x) a b = rw (a, b) (go (ltb x F))
   where
@@ -173,7 +173,7 @@ below-is F cs i d (some x) a b = rw (a, b) (go (ltb x F))
 
 -- at most one deeper
 pub below-small : (F d : ℕ) (t : Option ℕ) → node-below F d t ≤ d + 1
-unfolding node-below below
+unfolding node-below depth-below
 below-small F d none = omega arith
 below-small F d (some x) = go (ltb x F)
   where

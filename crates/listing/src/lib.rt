@@ -5,6 +5,7 @@ ghost use mathlib.Core.Bool.{cond};
 ghost use mathlib.Core.List.{List, [], _∷_};
 ghost use Prim.Native.Nat.{ℕ, _+_, _-_, _*_, _/_, _<_, _≤_};
 ghost use lib.ListN.{length, getD};
+ghost use Rattle.tree.specs.Cells.{cell-width, cell-first, cell-next};
 ghost use Rattle.words.specs.Words.{put, front};
 ghost use Rattle.tree.specs.Calls.{list-cells};
 ghost use Rattle.rules.specs.Calls.{list-call};
@@ -14,6 +15,7 @@ use tree::CELL_WIDTH;
 use tree::FIRST;
 use tree::ID;
 use tree::LENGTH;
+use tree::LINE_WIDTH;
 use tree::NEXT;
 use tree::POSITION;
 use words::Found;
@@ -28,7 +30,7 @@ pub enum Listed {
 
 // Does cell i, counted from 0, have a line? The top aside.
 fn is_listed(cells: &[u32], first_repeat: u32, i: usize) -> bool
-    requires { ⌜ i * 7 + 7 ≤ length (now cells) ⌝ }
+    requires { ⌜ i * cell-width + cell-width ≤ length (now cells) ⌝ }
     ensures { λ r. ⌜ r ≡ is-listed «first_repeat» (now (cells .entry)) i ⌝ }
 {
     if cells[i * CELL_WIDTH] != 1 {
@@ -39,7 +41,7 @@ fn is_listed(cells: &[u32], first_repeat: u32, i: usize) -> bool
 
 // How many lines the n cells have.
 fn count_lines(cells: &[u32], n: usize, first_repeat: u32) -> usize
-    requires { ⌜ n * 7 ≡ length (now cells) ⌝ }
+    requires { ⌜ n * cell-width ≡ length (now cells) ⌝ }
     ensures { λ r. ⌜ r ≡ lines-from «first_repeat» (now (cells .entry)) 1 (n - 1) ⌝ }
 {
     let mut count: usize = 0;
@@ -98,7 +100,7 @@ fn put_line(
         lines[at + 1] = cells[i * CELL_WIDTH + ID];
         lines[at + 2] = start;
         lines[at + 3] = start + cells[i * CELL_WIDTH + LENGTH];
-        return at + 4;
+        return at + LINE_WIDTH;
     }
     at
 }
@@ -106,7 +108,7 @@ fn put_line(
 // Notes what the cells that cell i names by next and by first need.
 fn note_links(cells: &[u32], first_repeat: u32, i: usize, base: u32, depth: u32, work: &mut [u32])
     requires { ⌜ Ready (now cells) i base depth ⌝ }
-    requires { ⌜ (getD (now cells) (i * 7 + 4) 0 * 2 ≤ length (now work)) × (getD (now cells) (i * 7 + 6) 0 * 2 ≤ length (now work)) ⌝ }
+    requires { ⌜ (cell-first (now cells) i * 2 ≤ length (now work)) × (cell-next (now cells) i * 2 ≤ length (now work)) ⌝ }
     ensures { λ _. ⌜ now (work .exit) ≡ links-noted «first_repeat» (now (cells .entry)) (now (work .entry)) i base depth ⌝ }
 {
     let inner = depth_below(depth, is_listed(cells, first_repeat, i));
@@ -132,7 +134,7 @@ fn write_lines(
     requires { ⌜ Lent «first_repeat» start (now cells) n (length (now work)) (length (now lines)) ⌝ }
     ensures { λ _. ⌜ now (lines .exit) ≡ front (list-cells «first_repeat» start (now (cells .entry))) (now (lines .entry)) ⌝ }
 {
-    note(work, cells[4], start, 0);
+    note(work, cells[FIRST], start, 0);
     let mut at: usize = 0;
     let mut i: usize = 1;
     while i < n {
@@ -168,7 +170,7 @@ pub fn list(
         return Listed::Refused(15, c);
     }
     let count = count_lines(cells, n, first_repeat);
-    if lines.len() / 4 < count {
+    if lines.len() / LINE_WIDTH < count {
         return Listed::Refused(14, 0);
     }
     write_lines(cells, n, first_repeat, start, work, lines);

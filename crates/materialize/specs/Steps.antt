@@ -8,10 +8,10 @@ use mathlib.Core.Bool.{cond}
 use mathlib.Core.Logic.{_⊎_}
 use lib.Dec.{ltb, eqb}
 use lib.ListN.{length, getD, set, take, drop}
-use Rattle.words.specs.Words.{id-of, start-of, end-of, last-of}
+use Rattle.words.specs.Words.{id-of, start-of, end-of, last-of, record-width}
 use Rattle.tree.specs.Trees.{Trees, nil, tree, part, _⊕_, nodes, siblings}
 use Rattle.tree.specs.Materialise.{within, beyond, unpack}
-use Rattle.tree.specs.Cells.{kind, id-word, relative, decode-from}
+use Rattle.tree.specs.Cells.{kind, id-word, relative, decode-from, cell-width, next-place, cell-kind, cell-id, cell-position, cell-length, cell-first, cell-count, cell-next}
 
 -- where a link leads: to the cell c, counted from 0, or to e where there is no tree
 unfoldable pub leads : Trees → (c e : ℕ) → ℕ
@@ -24,13 +24,13 @@ abbrev pub Out : (out : List ℕ) (c e : ℕ) → Trees → Type 0
 Out out c e nil = Unit {0}
 Out out c e (tree t s l kids rest) =
     record {
-      kind-at : getD out (c * 7) 0 ≡ kind t;
-      id-at : getD out (c * 7 + 1) 0 ≡ id-word t;
-      start-at : getD out (c * 7 + 2) 0 ≡ s;
-      length-at : getD out (c * 7 + 3) 0 ≡ l;
-      first-at : getD out (c * 7 + 4) 0 ≡ leads kids (suc c) 0;
-      count-at : getD out (c * 7 + 5) 0 ≡ siblings kids;
-      next-at : getD out (c * 7 + 6) 0 ≡ leads rest (c + suc (nodes kids)) e;
+      kind-at : cell-kind out c ≡ kind t;
+      id-at : cell-id out c ≡ id-word t;
+      start-at : cell-position out c ≡ s;
+      length-at : cell-length out c ≡ l;
+      first-at : cell-first out c ≡ leads kids (suc c) 0;
+      count-at : cell-count out c ≡ siblings kids;
+      next-at : cell-next out c ≡ leads rest (c + suc (nodes kids)) e;
       inner : Out out (suc c) 0 kids;
       after : Out out (c + suc (nodes kids)) e rest;
     }
@@ -54,7 +54,7 @@ pub record Made (held out : List ℕ) (n c : ℕ) (ts : Trees) : Type 0 where
 
 -- there is room for n cells and for their numbers
 pub record Room (held out : List ℕ) (n : ℕ) : Type 0 where
-  pub wide : n * 7 ≤ length out
+  pub wide : n * cell-width ≤ length out
   pub deep : n ≤ length held
   pub few : n ≤ 4294967295
 
@@ -64,7 +64,7 @@ pub record Behind (at : ℕ) (before after : List ℕ) : Type 0 where
 
 -- Of `sp` siblings those with `kept` or more after them are taken: the last one's link ends.
 unfoldable pub ended : (held out : List ℕ) (kept sp : ℕ) → List ℕ
-ended held out kept sp = cond (ltb kept sp) (set out (getD held kept 0 * 7 + 6) 0) out
+ended held out kept sp = cond (ltb kept sp) (set out (getD held kept 0 * cell-width + next-place) 0) out
 
 -- the link of the cell c, counted from 0, to its first child
 unfoldable pub first-link : (c kept sp : ℕ) → ℕ
@@ -91,15 +91,15 @@ pub record Fit (held out : List ℕ) (c kept sp : ℕ) : Type 0 where
   pub few : sp ≤ 4294967295
   pub first : kept < sp → c + 2 < 4294967296
   pub next : 0 < kept → getD held (kept - 1) 0 < 4294967295
-  pub last : kept < sp → getD held kept 0 * 7 + 6 < length out
-  pub cell : c * 7 + 7 ≤ length out
+  pub last : kept < sp → getD held kept 0 * cell-width + next-place < length out
+  pub cell : c * cell-width + cell-width ≤ length out
   pub number : c < 4294967295
 
 -- what a tree leaves that is written
 pub record Put (held held′ out out′ : List ℕ) (c kept sp k i s l : ℕ) : Type 0 where
   pub made : (p : Taken held out c kept sp) (t : Option ℕ) → k ≡ kind t → i ≡ id-word t → Made held′ out′ (p .total) c (tree t s l (p .kids) (p .rest))
   pub held-behind : (p : Taken held out c kept sp) → Behind (p .total) held held′
-  pub out-behind : (p : Taken held out c kept sp) → Behind (p .total * 7) out out′
+  pub out-behind : (p : Taken held out c kept sp) → Behind (p .total * cell-width) out out′
 
 -- the trees of a part so far, with starts from the part's parent, before the siblings that follow the part
 abbrev pub so-far : Trees → Trees → Trees
@@ -123,26 +123,26 @@ pub record Moved (held out out′ : List ℕ) (low sp limit q r : ℕ) : Type 0 
   pub made : (p : Open held out low sp limit)
       → Made held out′ (p .total) (p .cell) (relative q (within (p .trees) (p .count)) ⊕ so-far (beyond (p .trees) (p .count)) (p .rest))
   pub left : (p : Open held out low sp limit) → siblings (so-far (beyond (p .trees) (p .count)) (p .rest)) ≡ r
-  pub behind : (p : Open held out low sp limit) → Behind (p .total * 7) out out′
+  pub behind : (p : Open held out low sp limit) → Behind (p .total * cell-width) out out′
 
 -- how many records stand in one, by its end index n and its offset
 unfoldable pub inner-count : (n off : ℕ) → ℕ
-inner-count n off = (n - (off + 4)) / 4
+inner-count n off = (n - (off + record-width)) / record-width
 
 -- A part that can be unpacked before `sp` siblings: its first record becomes cell c. Starts from p fit 32 bits.
 pub record Packed (held out : List ℕ) (c p sp : ℕ) (ws : List ℕ) : Type 0 where
   pub total : ℕ
   pub rest : Trees
-  pub made : Made held out total (c + length ws / 4) rest
+  pub made : Made held out total (c + length ws / record-width) rest
   pub room : Room held out total
   pub all : siblings rest ≡ sp
-  pub starts : (i : ℕ) → i * 4 + 4 ≤ length ws → p + start-of ws i < 4294967296
+  pub starts : (i : ℕ) → i * record-width + record-width ≤ length ws → p + start-of ws i < 4294967296
 
 pub record Unpacked (held held′ out out′ : List ℕ) (c p sp : ℕ) (ws : List ℕ) (r : ℕ) : Type 0 where
   pub made : (g : Packed held out c p sp ws) → Made held′ out′ (g .total) c (so-far (unpack p 0 ws) (g .rest))
   pub left : (g : Packed held out c p sp ws) → siblings (so-far (unpack p 0 ws) (g .rest)) ≡ r
   pub held-behind : (g : Packed held out c p sp ws) → Behind (g .total) held held′
-  pub out-behind : (g : Packed held out c p sp ws) → Behind (g .total * 7) out out′
+  pub out-behind : (g : Packed held out c p sp ws) → Behind (g .total * cell-width) out out′
 
 -- the trees with their parts unpacked; all starts are counted from the parent's
 unfoldable pub unpacked : Trees → Trees
@@ -152,16 +152,16 @@ unpacked (part s l ws rest) = so-far (unpack s 0 ws) (unpacked rest)
 
 -- how many cells come of one, by its kind and count
 unfoldable pub weight : (kind count : ℕ) → ℕ
-weight k m = cond (eqb k 2) (m / 4) 1
+weight k m = cond (eqb k 2) (m / record-width) 1
 
 -- how many come of the first i cells
 unfoldable pub cells-before : (cs : List ℕ) (i : ℕ) → ℕ
 cells-before cs zero = 0
-cells-before cs (suc i) = cells-before cs i + weight (getD cs (i * 7) 0) (getD cs (i * 7 + 5) 0)
+cells-before cs (suc i) = cells-before cs i + weight (cell-kind cs i) (cell-count cs i)
 
 -- the trees of the cells from i on, counted from 0
 abbrev pub ahead : (cs ws : List ℕ) (i : ℕ) → Trees
-ahead cs ws i = decode-from ws (length cs / 7 - i) (drop (i * 7) cs)
+ahead cs ws i = decode-from ws (length cs / cell-width - i) (drop (i * cell-width) cs)
 
 -- How many trees come of the siblings after each of these stands in `held` from n on, the last one's in front.
 abbrev pub Marks : (held : List ℕ) (n : ℕ) → Trees → Type 0
@@ -175,19 +175,19 @@ pub record At (held out cs ws : List ℕ) (total i cell sp mp : ℕ) : Type 0 wh
   pub marks : Marks held total (ahead cs ws i)
   pub all : siblings (unpacked (ahead cs ws i)) ≡ sp
   pub kept : siblings (ahead cs ws i) ≡ mp
-  pub few : mp + i ≤ length cs / 7
+  pub few : mp + i ≤ length cs / cell-width
   pub before : cell ≡ cells-before cs i
   pub room : Room held out total
-  pub deep : total + length cs / 7 ≤ length held
+  pub deep : total + length cs / cell-width ≤ length held
 
 -- the part of the cell i
 abbrev pub part-at : (cs ws : List ℕ) (i : ℕ) → List ℕ
-part-at cs ws i = take (getD cs (i * 7 + 5) 0) (drop (getD cs (i * 7 + 4) 0) ws)
+part-at cs ws i = take (cell-count cs i) (drop (cell-first cs i) ws)
 
 -- what is used of a cell that breaks no rule, if it is a part
 pub record Part-fits (cs ws : List ℕ) (i : ℕ) : Type 0 where
-  pub inside : getD cs (i * 7 + 4) 0 + getD cs (i * 7 + 5) 0 ≤ length ws
-  pub starts : (j : ℕ) → j * 4 + 4 ≤ length (part-at cs ws i) → getD cs (i * 7 + 2) 0 + start-of (part-at cs ws i) j < 4294967296
+  pub inside : cell-first cs i + cell-count cs i ≤ length ws
+  pub starts : (j : ℕ) → j * record-width + record-width ≤ length (part-at cs ws i) → cell-position cs i + start-of (part-at cs ws i) j < 4294967296
 
 -- how many of `mp` siblings are left when n are taken, and how many of `sp` trees
 unfoldable pub trees-left : (held : List ℕ) (total sp mp left : ℕ) → ℕ
@@ -195,37 +195,37 @@ trees-left held total sp mp left = cond (ltb left mp) (getD held (total + left) 
 
 -- a cell that is a tree: kind 1, or kind 3 with the id 0
 abbrev pub Typed : (cs : List ℕ) (i : ℕ) → Type 0
-Typed cs i = (getD cs (i * 7) 0 ≡ 1) ⊎ ((getD cs (i * 7) 0 ≡ 3) × (getD cs (i * 7 + 1) 0 ≡ 0))
+Typed cs i = (cell-kind cs i ≡ 1) ⊎ ((cell-kind cs i ≡ 3) × (cell-id cs i ≡ 0))
 
 -- the cell i can be written, after the cells behind it
 pub record Next-cell (held out cs : List ℕ) (total i cell sp mp : ℕ) : Type 0 where
   pub ws : List ℕ
   pub at : At held out cs ws total (i + 1) cell sp mp
-  pub inside : i * 7 + 7 ≤ length cs
-  pub other : getD cs (i * 7) 0 ≡ 2 → ⊥
+  pub inside : i * cell-width + cell-width ≤ length cs
+  pub other : cell-kind cs i ≡ 2 → ⊥
   pub typed : Typed cs i
 
 pub record Next-part (held out cs ws : List ℕ) (total i cell sp mp : ℕ) : Type 0 where
   pub at : At held out cs ws total (i + 1) cell sp mp
-  pub inside : i * 7 + 7 ≤ length cs
-  pub is : getD cs (i * 7) 0 ≡ 2
+  pub inside : i * cell-width + cell-width ≤ length cs
+  pub is : cell-kind cs i ≡ 2
   pub fits : Part-fits cs ws i
 
 pub record Wrote (held held′ out out′ cs ws : List ℕ) (total i cell sp mp cell′ sp′ mp′ : ℕ) : Type 0 where
   pub at : At held out cs ws total (i + 1) cell sp mp → At held′ out′ cs ws total i cell′ sp′ mp′
-  pub behind : At held out cs ws total (i + 1) cell sp mp → Behind (total * 7) out out′
+  pub behind : At held out cs ws total (i + 1) cell sp mp → Behind (total * cell-width) out out′
 
 -- the next cell, of either kind
 pub record Next (held out cs ws : List ℕ) (total i cell sp mp : ℕ) : Type 0 where
   pub at : At held out cs ws total (i + 1) cell sp mp
-  pub inside : i * 7 + 7 ≤ length cs
-  pub parts : getD cs (i * 7) 0 ≡ 2 → Part-fits cs ws i
-  pub typed : (getD cs (i * 7) 0 ≡ 2 → ⊥) → Typed cs i
+  pub inside : i * cell-width + cell-width ≤ length cs
+  pub parts : cell-kind cs i ≡ 2 → Part-fits cs ws i
+  pub typed : (cell-kind cs i ≡ 2 → ⊥) → Typed cs i
 
 -- cells that can be written
 pub record Ready (held out cs ws : List ℕ) (total : ℕ) : Type 0 where
-  pub total-is : total ≡ cells-before cs (length cs / 7)
+  pub total-is : total ≡ cells-before cs (length cs / cell-width)
   pub room : Room held out total
-  pub deep : total + length cs / 7 ≤ length held
-  pub parts : (i : ℕ) → i * 7 + 7 ≤ length cs → getD cs (i * 7) 0 ≡ 2 → Part-fits cs ws i
-  pub typed : (i : ℕ) → i * 7 + 7 ≤ length cs → (getD cs (i * 7) 0 ≡ 2 → ⊥) → Typed cs i
+  pub deep : total + length cs / cell-width ≤ length held
+  pub parts : (i : ℕ) → i * cell-width + cell-width ≤ length cs → cell-kind cs i ≡ 2 → Part-fits cs ws i
+  pub typed : (i : ℕ) → i * cell-width + cell-width ≤ length cs → (cell-kind cs i ≡ 2 → ⊥) → Typed cs i

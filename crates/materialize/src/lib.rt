@@ -5,8 +5,8 @@ ghost use mathlib.Core.List.{List, [], _∷_};
 ghost use mathlib.Core.Bool.{cond};
 ghost use lib.Dec.{ltb, eqb};
 ghost use lib.ListN.{length, getD, set};
-ghost use Rattle.words.specs.Words.{put, front, Widened};
-ghost use Rattle.tree.specs.Cells.{cells};
+ghost use Rattle.words.specs.Words.{put, front, Widened, record-width};
+ghost use Rattle.tree.specs.Cells.{cells, cell-width, next-place};
 ghost use Rattle.rules.specs.Calls.{materialise-call};
 ghost use Rattle.materialize.specs.Answer.{materialized-outcome};
 ghost use Rattle.materialize.specs.Steps.{ended, first-link, next-link, Taken, Put, Open, Moved, inner-count, Packed, Unpacked, trees-left, cells-before, Next-cell, Next-part, Next, Wrote, Ready, weight, unpacked, ahead};
@@ -17,6 +17,7 @@ use tree::ID;
 use tree::LENGTH;
 use tree::NEXT;
 use tree::POSITION;
+use words::RECORD_WIDTH;
 
 // Seven words from an index on.
 fn put_cell(
@@ -30,7 +31,7 @@ fn put_cell(
     count: u32,
     next: u32,
 )
-    requires { ⌜ at + 7 ≤ lib.ListN.length (now out) ⌝ }
+    requires { ⌜ at + cell-width ≤ lib.ListN.length (now out) ⌝ }
     ensures { λ _. ⌜ now (out .exit) ≡ put (now (out .entry)) at (kind ∷ id ∷ start ∷ length ∷ first ∷ count ∷ next ∷ []) ⌝ }
 {
     out[at] = kind;
@@ -45,7 +46,7 @@ fn put_cell(
 // Ends the links of the siblings that are taken: the last one of them has no next.
 fn end_links(work: &[u32], kept: usize, sp: usize, out: &mut [u32])
     requires { ⌜ (kept < sp → kept < length (now work)) ⌝ }
-    requires { ⌜ (kept < sp → getD (now work) kept 0 * 7 + 6 < length (now out)) ⌝ }
+    requires { ⌜ (kept < sp → getD (now work) kept 0 * cell-width + next-place < length (now out)) ⌝ }
     ensures { λ _. ⌜ now (out .exit) ≡ ended (now (work .entry)) (now (out .entry)) kept sp ⌝ }
 {
     if sp <= kept {
@@ -136,13 +137,13 @@ fn hand_over(
 
 // How many records stand in one, by its end index and its offset.
 fn inside(stop: usize, off: usize) -> usize
-    requires { ⌜ off + 4 ≤ 18446744073709551615 ⌝ }
+    requires { ⌜ off + record-width ≤ 18446744073709551615 ⌝ }
     ensures { λ r. ⌜ r ≡ inner-count stop off ⌝ }
 {
-    if stop < off + 4 {
+    if stop < off + RECORD_WIDTH {
         return 0;
     }
-    (stop - (off + 4)) / 4
+    (stop - (off + RECORD_WIDTH)) / RECORD_WIDTH
 }
 
 // Writes the records of a part as trees, from the last one back: the first becomes the cell `cell`. `position` is the part's; `sp`
@@ -159,10 +160,10 @@ fn unpack_part(
     ensures { λ r. ⌜ Unpacked (now (work .entry)) (now (work .exit)) (now (out .entry)) (now (out .exit)) cell position sp (now (part .entry)) r ⌝ }
 {
     let mut left = sp;
-    let mut i = part.len() / 4;
+    let mut i = part.len() / RECORD_WIDTH;
     while 0 < i {
         i -= 1;
-        let at = i * 4;
+        let at = i * RECORD_WIDTH;
         let start = position + words::word(part[at + 1]);
         let len = words::less(words::word(part[at + 2]), words::word(part[at + 1]));
         let limit = cell + i + 1 + inside(words::wide(part[at + 3]), at);
@@ -264,7 +265,7 @@ fn place_part(
     let from = words::index(cells[i * CELL_WIDTH + FIRST]);
     let count = words::index(cells[i * CELL_WIDTH + COUNT]);
     let part = &words[from..from + count];
-    let first = cell - count / 4;
+    let first = cell - count / RECORD_WIDTH;
     let top = unpack_part(
         part,
         cells[i * CELL_WIDTH + POSITION],
@@ -325,15 +326,15 @@ fn cell_weight(kind: u32, count: u32) -> usize
     ensures { λ r. ⌜ r ≡ weight kind count ⌝ }
 {
     if kind == 2 {
-        return words::index(count) / 4;
+        return words::index(count) / RECORD_WIDTH;
     }
     1
 }
 
 // How many cells the result has.
 fn count_cells(cells: &[u32]) -> usize
-    requires { ⌜ cells-before (now cells) (length (now cells) / 7) ≤ 18446744073709551615 ⌝ }
-    ensures { λ r. ⌜ r ≡ cells-before (now (cells .entry)) (length (now (cells .entry)) / 7) ⌝ }
+    requires { ⌜ cells-before (now cells) (length (now cells) / cell-width) ≤ 18446744073709551615 ⌝ }
+    ensures { λ r. ⌜ r ≡ cells-before (now (cells .entry)) (length (now (cells .entry)) / cell-width) ⌝ }
 {
     let n = cells.len() / CELL_WIDTH;
     let mut total: usize = 0;

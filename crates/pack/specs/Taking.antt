@@ -4,7 +4,7 @@ use mathlib.Core.List.{List}
 use mathlib.Core.Option.{Option, none, some}
 use Prim.Native.Nat.{ℕ, _+_, _-_, _*_, _/_, _%_, _≤_}
 use lib.ListN.{length}
-use Rattle.words.specs.Words.{put}
+use Rattle.words.specs.Words.{put, record-width}
 use Rattle.tree.specs.Items.{Items, span, records, first, leftmost}
 use Rattle.tree.specs.Pack.{words, pack}
 use Rattle.cursor.specs.Spells.{Stands}
@@ -24,9 +24,9 @@ pub record Filled (l l′ : List ℕ) (low high : ℕ) (ws : List ℕ) : Type 0 
 
 -- a run of items that ends behind record p - 1, as a scan has measured it
 pub record Runs (F : ℕ) (own : Option ℕ) (w : List ℕ) (p : ℕ) (t : BufferScan) (run : Items) : Type 0 where
-  pub reach : t .size ≤ p * 4
-  pub begins : t .size % 4 ≡ 0
-  pub stands : Stands F own w (p - t .size / 4) p run
+  pub reach : t .size ≤ p * record-width
+  pub begins : t .size % record-width ≡ 0
+  pub stands : Stands F own w (p - t .size / record-width) p run
   pub from : From (t .start) run
   pub few : t .skip ≤ t .size
   pub sized : t .size - t .skip ≡ words F run

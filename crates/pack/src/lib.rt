@@ -5,7 +5,7 @@ ghost use mathlib.Core.List.{[], _∷_};
 ghost use mathlib.Core.Option.{Option};
 ghost use Prim.Native.Nat.{ℕ, _+_, _-_, _*_, _/_, _<_, _≤_};
 ghost use lib.ListN.{length, getD};
-ghost use Rattle.words.specs.Words.{put};
+ghost use Rattle.words.specs.Words.{put, record-width};
 ghost use Rattle.tree.specs.Items.{Items, span};
 ghost use Rattle.tree.specs.Pack.{pack, run-from};
 ghost use Rattle.cursor.specs.Own.{own-of};
@@ -19,6 +19,7 @@ use scan::BufferScan;
 use scan::Memo;
 use scan::Scan;
 use scan::find_buffer_size;
+use words::RECORD_WIDTH;
 ghost use Rattle.tree.specs.Ordered.{Fits};
 
 // A part that is staged: the records still to read, its lowest word, where it starts and how long it is.
@@ -37,7 +38,7 @@ pub enum Taken {
 
 // The four words of a packed record.
 fn put_packed(part: &mut [u32], at: usize, id: u32, start: u32, end: u32, last: u32)
-    requires { ⌜ at + 4 ≤ length (now part) ⌝ }
+    requires { ⌜ at + record-width ≤ length (now part) ⌝ }
     ensures { λ _. ⌜ now (part .exit) ≡ put (now (part .entry)) at (id ∷ start ∷ end ∷ last ∷ []) ⌝ }
 {
     part[at] = id;
@@ -58,14 +59,14 @@ fn begins(records: &[u32], p: usize) -> usize
 
 // The word to go on from behind the node that ends before word p: before its span, or of a repeat record behind its children.
 fn skip_node(records: &[u32], first_repeat: u32, p: usize) -> usize
-    requires { ⌜ 4 ≤ p ⌝ }
+    requires { ⌜ record-width ≤ p ⌝ }
     requires { ⌜ p ≤ length (now records) ⌝ }
-    requires { ⌜ (getD (now records) (p - 4) 0 < «first_repeat» → getD (now records) (p - 1) 0 ≤ p) ⌝ }
+    requires { ⌜ (getD (now records) (p - record-width) 0 < «first_repeat» → getD (now records) (p - 1) 0 ≤ p) ⌝ }
     ensures { λ r. ⌜ r ≡ behind «first_repeat» (now (records .entry)) p ⌝ }
 {
-    let id = records[p - 4];
+    let id = records[p - RECORD_WIDTH];
     if first_repeat <= id {
-        return p - 4;
+        return p - RECORD_WIDTH;
     }
     begins(records, p)
 }
@@ -76,7 +77,7 @@ fn copy_record(records: &[u32], start: u32, part: &mut [u32], to: usize)
     ensures { λ _. ⌜ now (part .exit) ≡ put (now (part .entry)) to (packed-record (now (records .entry)) start (length (now (part .entry)))) ⌝ }
 {
     let p = records.len();
-    let id = records[p - 4];
+    let id = records[p - RECORD_WIDTH];
     let from = records[p - 3];
     let end = records[p - 2];
     let last = part.len();
@@ -88,19 +89,19 @@ fn copy_record(records: &[u32], start: u32, part: &mut [u32], to: usize)
 // are read again behind its descendants, so that one level of a deep nesting takes little of the stack.
 fn copy_to_buffer(records: &[u32], first_repeat: u32, start: u32, part: &mut [u32]) -> usize
     requires { ⌜ Copyable «first_repeat» (now records) start (now part) ⌝ }
-    ensures { λ r. ⌜ ((lo off : ℕ) (its : Items) → Ready «first_repeat» (now (records .entry)) start lo off its (length (now (records .entry)) / 4) (length (now (part .entry))) → lo < length (now (records .entry)) / 4 → Copies «first_repeat» (now (records .entry)) start lo off its (now (part .entry)) (behind «first_repeat» (now (records .entry)) (length (now (records .entry))) / 4) r (now (part .exit))) ⌝ }
+    ensures { λ r. ⌜ ((lo off : ℕ) (its : Items) → Ready «first_repeat» (now (records .entry)) start lo off its (length (now (records .entry)) / record-width) (length (now (part .entry))) → lo < length (now (records .entry)) / record-width → Copies «first_repeat» (now (records .entry)) start lo off its (now (part .entry)) (behind «first_repeat» (now (records .entry)) (length (now (records .entry))) / record-width) r (now (part .exit))) ⌝ }
 {
     let p = records.len();
-    if first_repeat <= records[p - 4] {
+    if first_repeat <= records[p - RECORD_WIDTH] {
         return part.len();
     }
-    let mut q = p - 4;
+    let mut q = p - RECORD_WIDTH;
     let mut k = part.len();
     while begins(records, p) < q {
         k = copy_to_buffer(&records[..q], first_repeat, start, &mut part[..k]);
         q = skip_node(records, first_repeat, q);
     }
-    let to = k - 4;
+    let to = k - RECORD_WIDTH;
     copy_record(records, start, part, to);
     to
 }
@@ -131,9 +132,9 @@ fn pack_node(
     ensures { λ r. ⌜ ((own : Option ℕ) (its : Items) → Runs «first_repeat» own (now (records .entry)) p run its → Filled (now (work .entry)) (now (work .exit)) r low (pack «first_repeat» (run .start) 0 its)) ⌝ }
 {
     let base = low - (run.size - run.skip);
-    let floor = p * 4 - run.size;
+    let floor = p * RECORD_WIDTH - run.size;
     copy_nodes(
-        &records[..p * 4],
+        &records[..p * RECORD_WIDTH],
         floor,
         first_repeat,
         run.start,
@@ -178,7 +179,7 @@ pub fn take_run(
     };
     let base = pack_node(records, p, first_repeat, run, work, low);
     Taken::Packed(Part {
-        p: p - run.size / 4,
+        p: p - run.size / RECORD_WIDTH,
         low: base,
         start: run.start,
         length: end - run.start,

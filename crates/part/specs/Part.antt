@@ -7,7 +7,7 @@ use mathlib.Core.Bool.{Bool, false, cond, not, _&&_, _||_}
 use lib.ListN.{length}
 use lib.Dec.{ltb, leb, eqb}
 use Rattle.words.specs.Outcome.{Outcome, accepted, refused}
-use Rattle.words.specs.Words.{id-of, start-of, end-of, last-of}
+use Rattle.words.specs.Words.{id-of, start-of, end-of, last-of, record-width}
 
 -- the end index of record i: the word offset behind its last descendant
 abbrev pub end-index : List ℕ → ℕ → ℕ
@@ -18,9 +18,9 @@ unfoldable pub own-fault : List ℕ → ℕ → ℕ → ℕ
 own-fault w types i =
     cond (leb types (id-of w i)) 17
     (cond (ltb (end-of w i) (start-of w i)) 18
-    (cond (ltb (end-index w i) (i * 4 + 4)) 19
+    (cond (ltb (end-index w i) (i * record-width + record-width)) 19
     (cond (ltb (length w) (end-index w i)) 19
-    (cond (not (eqb (end-index w i % 4) 0)) 19 0))))
+    (cond (not (eqb (end-index w i % record-width) 0)) 19 0))))
 
 -- 20: whether e is above the end index of one of the first n records that encloses the offset `at`
 unfoldable pub crosses : List ℕ → ℕ → ℕ → ℕ → Bool
@@ -31,19 +31,19 @@ crosses w (suc n) at e = (ltb at (end-index w n) && ltb (end-index w n) e) || cr
 unfoldable pub fault : List ℕ → ℕ → ℕ → ℕ
 fault w types i =
     cond (eqb (own-fault w types i) 0)
-    (cond (crosses w i (i * 4) (end-index w i)) 20 0)
+    (cond (crosses w i (i * record-width) (end-index w i)) 20 0)
     (own-fault w types i)
 
 -- the first fault among `left` records from record i on; without one the count of records
 unfoldable pub faults-from : List ℕ → ℕ → ℕ → ℕ → Outcome
-faults-from w types i zero = accepted (length w / 4 ∷ [])
+faults-from w types i zero = accepted (length w / record-width ∷ [])
 faults-from w types i (suc left) =
     let rest = faults-from w types (i + 1) left in
-    cond (eqb (fault w types i) 0) rest (refused (fault w types i) (i * 4))
+    cond (eqb (fault w types i) 0) rest (refused (fault w types i) (i * record-width))
 
 -- the part check: T above 65,536; length not a multiple of 4; then record by record
 unfoldable pub part-check : List ℕ → ℕ → Outcome
 part-check w types =
     cond (ltb 65536 types) (refused 1 0)
-    (cond (not (eqb (length w % 4) 0)) (refused 16 0)
-    (faults-from w types 0 (length w / 4)))
+    (cond (not (eqb (length w % record-width) 0)) (refused 16 0)
+    (faults-from w types 0 (length w / record-width)))

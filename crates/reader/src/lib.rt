@@ -3,12 +3,13 @@
 ghost use mathlib.Core.Path.{_≡_};
 ghost use Prim.Native.Nat.{_-_, _/_, _<_};
 ghost use lib.ListN.{length};
-ghost use Rattle.words.specs.Words.{id-of, start-of, end-of, last-of};
+ghost use Rattle.words.specs.Words.{id-of, start-of, end-of, last-of, record-width};
 ghost use Rattle.reader.specs.Before.{Readable, record-before};
 use records::end_at;
 use records::id_at;
 use records::size_at;
 use records::start_at;
+use words::RECORD_WIDTH;
 
 pub struct Reader<'a> {
     pub records: &'a [u32],
@@ -26,11 +27,11 @@ pub struct Record {
 
 // At the end of the list, where reading begins.
 pub fn at_end<'a>(records: &'a [u32]) -> Reader<'a>
-    ensures { λ r. ⌜ (r .records ≡ records .entry) × (r .at ≡ length (now (records .entry)) / 4) ⌝ }
+    ensures { λ r. ⌜ (r .records ≡ records .entry) × (r .at ≡ length (now (records .entry)) / record-width) ⌝ }
 {
     Reader {
         records,
-        at: records.len() / 4,
+        at: records.len() / RECORD_WIDTH,
     }
 }
 
@@ -92,7 +93,7 @@ impl<'a> Reader<'a> {
 
 // How many records a list has: the place where reading begins.
 pub fn count(records: &[u32]) -> usize
-    ensures { λ r. ⌜ r ≡ length (now (records .entry)) / 4 ⌝ }
+    ensures { λ r. ⌜ r ≡ length (now (records .entry)) / record-width ⌝ }
 {
     at_end(records).position()
 }

@@ -14,7 +14,7 @@ use Rattle.words.specs.Outcome.{Outcome, accepted, refused, number-of, unless-r
 use Rattle.words.proofs.Outcomes.{never}
 use Rattle.records.specs.Forest.{Forest, empty, add, count, postfix, behind, Nested}
 use Rattle.records.specs.Parse.{descendants, nearest, farther, parse-from, parse}
-use Rattle.records.specs.Check.{record-fault, records-check, in-place, or-else, range-fault, first-level-fault, range-outcome, list-check, check, Accepted}
+use Rattle.records.specs.Check.{record-fault, records-check, in-place, or-else, range-fault, list-range-fault, range-outcome, list-check, check, Accepted}
 use Rattle.records.proofs.ParseLaws.{and-left, and-right, fine, first-fine, parse-postfix, postfix-parse}
 
 -- every record has an id below T, and starts at or before its end
@@ -107,13 +107,13 @@ records-number T (i ∷ s ∷ e ∷ n ∷ ws) done h =
     go (suc r) others rest h = absurd (omega arith)
     go zero others rest h = rest h
 
-list-accepted : (T S : ℕ) (ws : List ℕ) → number-of (list-check T S ws) ≡ 0 → (records-check T empty ws ≡ accepted []) × (first-level-fault S ws ≡ none)
+list-accepted : (T S : ℕ) (ws : List ℕ) → number-of (list-check T S ws) ≡ 0 → (records-check T empty ws ≡ accepted []) × (list-range-fault S ws ≡ none)
 unfolding list-check
-list-accepted T S ws = go (records-check T empty ws) (first-level-fault S ws) refl refl
+list-accepted T S ws = go (records-check T empty ws) (list-range-fault S ws) refl refl
   where
-    go : (o : Outcome) (q : Option ℕ) → records-check T empty ws ≡ o → first-level-fault S ws ≡ q
+    go : (o : Outcome) (q : Option ℕ) → records-check T empty ws ≡ o → list-range-fault S ws ≡ q
         → number-of (unless-refused o (range-outcome (length ws / 4) q)) ≡ 0
-        → (records-check T empty ws ≡ accepted []) × (first-level-fault S ws ≡ none)
+        → (records-check T empty ws ≡ accepted []) × (list-range-fault S ws ≡ none)
     go (refused r c) q e f h = absurd (never r c [] (sym e ∙ records-number T ws empty (ap number-of e ∙ h)))
     go (accepted counts) (some c) e f h = absurd (omega arith)
     go (accepted counts) none e f h = (records-number T ws empty (ap number-of e), f)
@@ -167,7 +167,7 @@ module _ (T b top S work : ℕ) (ws : List ℕ) where
         le-ltb 1048576 (length ws / 4) (a .few),
         le-ltb work (96 * (length ws / 4) + 96) room,
       )
-      (ap (λ (o : Outcome). unless-refused o (range-outcome (length ws / 4) (first-level-fault S ws))) (a .records)
+      (ap (λ (o : Outcome). unless-refused o (range-outcome (length ws / 4) (list-range-fault S ws))) (a .records)
       ∙ ap (range-outcome (length ws / 4)) (a .ranges))
 
 module _ (T b top S : ℕ) (ws : List ℕ) (a : Accepted T b top S ws) where
@@ -181,5 +181,5 @@ module _ (T b top S : ℕ) (ws : List ℕ) (a : Accepted T b top S ws) where
 
   -- ids are below T, ranges nested and ordered
   pub accepted-nested : S ≤ 4294967295 → Nested T S 4294967295 (parse ws)
-  unfolding parse first-level-fault
+  unfolding parse list-range-fault
   accepted-nested l = ranges-nested T (parse ws) S 4294967295 0 l (ranged-parse-from T ws empty (a .records) tt) (a .ranges)

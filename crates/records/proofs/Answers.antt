@@ -6,14 +6,14 @@ use Prim.Native.Nat.{ℕ, _/_}
 use lib.ListN.{length}
 use Rattle.words.specs.Outcome.{Outcome, accepted, refused, unless-refused}
 use Rattle.records.specs.Forest.{empty}
-use Rattle.records.specs.Check.{records-check, first-level-fault, range-outcome, list-check}
+use Rattle.records.specs.Check.{records-check, list-range-fault, range-outcome, list-check}
 use Rattle.records.specs.Taking.{Says, Faultless}
 use Rattle.records.specs.declared.Scanned.{Scanned}
 use Rattle.records.specs.declared.Scanned.the-variants.{Refused, Ordered, Unordered}
 
 module _ (T S : ℕ) (ws : List ℕ) where
   abbrev ranges : Outcome
-  ranges = range-outcome (length ws / 4) (first-level-fault S ws)
+  ranges = range-outcome (length ws / 4) (list-range-fault S ws)
 
   list-is : (o : Outcome) → records-check T empty ws ≡ o → list-check T S ws ≡ unless-refused o ranges
   unfolding list-check

@@ -8,7 +8,7 @@ pub mod Stack
 pub mod Scanning
 pub mod Judging
 pub mod Ranges
-pub mod Lowest
+pub mod LowestRecord
 pub mod Answers
 pub mod Crossing
 pub mod NineExactly

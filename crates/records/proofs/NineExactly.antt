@@ -17,7 +17,7 @@ use Rattle.words.specs.Outcome.{Outcome, accepted, refused, unless-refused}
 use Rattle.words.specs.Words.{id-of, start-of, end-of, last-of}
 use Rattle.words.proofs.Outcomes.{never}
 use Rattle.records.specs.Forest.{empty}
-use Rattle.records.specs.Check.{fills, own-fault, records-check, first-level-fault, range-outcome, list-check, check}
+use Rattle.records.specs.Check.{fills, own-fault, records-check, list-range-fault, range-outcome, list-check, check}
 use Rattle.records.specs.Nine.{Crosses, Whole, Nine}
 use Rattle.records.specs.Taking.{finished, fault-at}
 use Rattle.records.proofs.ParseLaws.{own-fine}
@@ -139,7 +139,7 @@ module _ (T : ℕ) (ws : List ℕ) (n : ℕ) (size : length ws ≡ n * 4) where
 -- 10 comes after 6 to 9
 list-nine : (T S : ℕ) (ws : List ℕ) (i : ℕ) → list-check T S ws ≡ refused 9 i → records-check T empty ws ≡ refused 9 i
 unfolding list-check
-list-nine T S ws i = go (records-check T empty ws) (first-level-fault S ws)
+list-nine T S ws i = go (records-check T empty ws) (list-range-fault S ws)
   where
     go : (o : Outcome) (q : Option ℕ) → unless-refused o (range-outcome (length ws / 4) q) ≡ refused 9 i → o ≡ refused 9 i
     go (refused r c) q h = h
@@ -193,7 +193,7 @@ module _ (T b top S work : ℕ) (ws : List ℕ) (i : ℕ) where
         le-ltb 1048576 (length ws / 4) (a .few),
         le-ltb work (96 * (length ws / 4) + 96) (a .room),
       )
-      (ap (λ (o : Outcome). unless-refused o (range-outcome (length ws / 4) (first-level-fault S ws)))
+      (ap (λ (o : Outcome). unless-refused o (range-outcome (length ws / 4) (list-range-fault S ws)))
       (reached T ws (length ws / 4) (whole-list (a .fours)) i (x .listed) (x .before) (x .whole) (x .crosses)))
 
   pub nine-exactly : (check T b top S work ws ≡ refused 9 i) ↔ Nine T b top work ws i

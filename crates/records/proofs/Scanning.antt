@@ -14,7 +14,7 @@ use Rattle.words.specs.Outcome.{accepted, refused}
 use Rattle.words.specs.Words.{id-of, start-of, end-of, last-of}
 use Rattle.records.specs.Forest.{Forest, empty, add, count, behind, Nested}
 use Rattle.records.specs.Parse.{parse, parse-from, nearest, farther}
-use Rattle.records.specs.Check.{fills, records-check, first-level-fault}
+use Rattle.records.specs.Check.{fills, records-check, list-range-fault}
 use Rattle.records.specs.Taking.{finished, Spelt, fault-at, reaches, Stacked, begins-at, pushed}
 use Rattle.records.proofs.ParseLaws.{nearest-zero, farther-zero}
 use Rattle.records.proofs.Spelling.{counted, span, fills-zero, behind-last, spelt-farther}
@@ -190,8 +190,8 @@ module _ {T S : ℕ} {ws w₀ w : List ℕ} {n i height : ℕ} {ordered : Bool} 
   pub scan-clear : records-check T empty ws ≡ accepted []
   scan-clear = no-fault T ws n (g .size) (subst (Progress T ws) last-is (g .progress))
 
-  pub scan-ordered : ordered ≡ true → first-level-fault S ws ≡ none
-  unfolding first-level-fault
+  pub scan-ordered : ordered ≡ true → list-range-fault S ws ≡ none
+  unfolding list-range-fault
   scan-ordered t =
       let e : finished ws i ≡ parse ws = ap (finished ws) last-is ∙ all-parsed T ws n (g .size) in
       nested-clear T (parse ws) S 4294967295 0 (rw e at (g .nested t))

@@ -7,6 +7,7 @@ use mathlib.Core.Option.{Option, none, some}
 use Prim.Native.Nat.{ℕ, zero, suc, _+_, _-_, _*_, _/_, _%_, _≤_, _<_}
 use lib.Dec.{ltb, leb, eqb}
 use lib.ListN.{length}
+use Rattle.words.specs.Words.{record-width}
 use Rattle.words.specs.Outcome.{Outcome, accepted, refused, unless-refused}
 use Rattle.records.specs.Forest.{Forest, empty, add, count, behind}
 use Rattle.records.specs.Parse.{descendants, nearest, farther, parse}
@@ -17,7 +18,7 @@ unfoldable pub own-fault : (T c i s e n : ℕ) → ℕ
 own-fault T c i s e n =
     cond (leb T i) 6
     (cond (ltb e s) 7
-    (cond (ltb n 4 || (not (eqb (n % 4) 0) || ltb (4 * suc c) n)) 8 0))
+    (cond (ltb n record-width || (not (eqb (n % record-width) 0) || ltb (record-width * suc c) n)) 8 0))
 
 -- do the last of the siblings hold exactly k records with their descendants?
 unfoldable pub fills : Forest → (k : ℕ) → Bool
@@ -69,8 +70,8 @@ range-fault lo hi c (add before i s e kids) =
     (elim (in-place lo hi (behind lo before) s e) [ true ↦ none | false ↦ some (c′ + count kids) ]))
 
 -- 10 in a whole list: "a first-level record starts before S". It may end anywhere: ends are 32-bit words.
-unfoldable pub first-level-fault : (S : ℕ) → List ℕ → Option ℕ
-first-level-fault S ws = range-fault S 4294967295 0 (parse ws)
+unfoldable pub list-range-fault : (S : ℕ) → List ℕ → Option ℕ
+list-range-fault S ws = range-fault S 4294967295 0 (parse ws)
 
 -- 10, lowest record first; without one the count of records.
 abbrev pub range-outcome : (records : ℕ) → Option ℕ → Outcome
@@ -79,7 +80,7 @@ range-outcome records (some c) = refused 10 c
 
 -- 6 to 9, then 10.
 unfoldable pub list-check : (T S : ℕ) → List ℕ → Outcome
-list-check T S ws = unless-refused (records-check T empty ws) (range-outcome (length ws / 4) (first-level-fault S ws))
+list-check T S ws = unless-refused (records-check T empty ws) (range-outcome (length ws / record-width) (list-range-fault S ws))
 
 -- The check. 1: T above 65,536; 2: b above 65,535; 3: top id not below T; 4: length not a multiple of 4; 5: over 1,048,576
 -- records; 11: work slice (of `work` words) below 96 × records + 96 words.
@@ -88,9 +89,9 @@ check T b top S work ws =
     cond (ltb 65536 T) (refused 1 0)
     (cond (ltb 65535 b) (refused 2 0)
     (cond (leb T top) (refused 3 0)
-    (cond (not (eqb (length ws % 4) 0)) (refused 4 0)
-    (cond (ltb 1048576 (length ws / 4)) (refused 5 0)
-    (cond (ltb work (96 * (length ws / 4) + 96)) (refused 11 0)
+    (cond (not (eqb (length ws % record-width) 0)) (refused 4 0)
+    (cond (ltb 1048576 (length ws / record-width)) (refused 5 0)
+    (cond (ltb work (96 * (length ws / record-width) + 96)) (refused 11 0)
     (list-check T S ws))))))
 
 -- "A list is accepted, under the numbers given with it, where none of 1 to 10 applies."
@@ -98,7 +99,7 @@ pub record Accepted (T b top S : ℕ) (ws : List ℕ) : Type 0 where
   pub types : T ≤ 65536
   pub bound : b ≤ 65535
   pub top-known : top < T
-  pub whole : length ws % 4 ≡ 0
-  pub few : length ws / 4 ≤ 1048576
+  pub whole : length ws % record-width ≡ 0
+  pub few : length ws / record-width ≤ 1048576
   pub records : records-check T empty ws ≡ accepted []
-  pub ranges : first-level-fault S ws ≡ none
+  pub ranges : list-range-fault S ws ≡ none

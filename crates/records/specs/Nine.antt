@@ -4,15 +4,15 @@ use mathlib.Core.Path.{_≡_}
 use mathlib.Core.List.{List}
 use Prim.Native.Nat.{ℕ, _+_, _-_, _*_, _/_, _%_, _≤_, _<_}
 use lib.ListN.{length}
-use Rattle.words.specs.Words.{id-of, start-of, end-of, last-of}
+use Rattle.words.specs.Words.{id-of, start-of, end-of, last-of, record-width}
 
 -- the word at which the span of record i begins: "a record's span is the size words ending with its last"
 abbrev pub begin-of : List ℕ → (i : ℕ) → ℕ
-begin-of ws i = (i + 1) * 4 - last-of ws i
+begin-of ws i = (i + 1) * record-width - last-of ws i
 
 -- the word behind the last one of record i, with which its span ends
 abbrev pub behind-of : (i : ℕ) → ℕ
-behind-of i = (i + 1) * 4
+behind-of i = (i + 1) * record-width
 
 -- 9: "its span begins inside an earlier record's span without covering it whole"
 pub record Crosses (ws : List ℕ) (i : ℕ) : Type 0 where
@@ -28,9 +28,9 @@ pub record Whole (T : ℕ) (ws : List ℕ) (i : ℕ) : Type 0 where
   -- 7: "start after end"
   pub ordered : start-of ws i ≤ end-of ws i
   -- 8: "size below 4, not a multiple of 4, or above 4 × (record number + 1)"
-  pub large : 4 ≤ last-of ws i
-  pub fours : last-of ws i % 4 ≡ 0
-  pub small : last-of ws i ≤ 4 * (i + 1)
+  pub large : record-width ≤ last-of ws i
+  pub fours : last-of ws i % record-width ≡ 0
+  pub small : last-of ws i ≤ record-width * (i + 1)
 
 -- 1 to 5 and 11 do not apply
 pub record Admitted (T b top work : ℕ) (ws : List ℕ) : Type 0 where
@@ -39,16 +39,16 @@ pub record Admitted (T b top work : ℕ) (ws : List ℕ) : Type 0 where
   pub bound : b ≤ 65535
   pub top-known : top < T
   -- 4: "length not a multiple of 4"; 5: "over 1,048,576 records"
-  pub fours : length ws % 4 ≡ 0
-  pub few : length ws / 4 ≤ 1048576
+  pub fours : length ws % record-width ≡ 0
+  pub few : length ws / record-width ≤ 1048576
   -- 11: "work slice below 96 × items + 96 words"
-  pub room : 96 * (length ws / 4) + 96 ≤ work
+  pub room : 96 * (length ws / record-width) + 96 ≤ work
 
 -- 9 is the answer, at record i
 pub record Nine (T b top work : ℕ) (ws : List ℕ) (i : ℕ) : Type 0 where
   pub admitted : Admitted T b top work ws
   -- i is the number of a record
-  pub listed : i < length ws / 4
+  pub listed : i < length ws / record-width
   -- no record before it has a fault of 6 to 9
   pub before : (j : ℕ) → j < i → Whole T ws j × (Crosses ws j → ⊥)
   -- it draws none of 6 to 8

@@ -1,11 +1,12 @@
 -- A list of words read as a forest.
 use mathlib.Core.List.{List, [], _∷_}
 use Prim.Native.Nat.{ℕ, zero, suc, _-_, _/_}
+use Rattle.words.specs.Words.{record-width}
 use Rattle.records.specs.Forest.{Forest, empty, add, count}
 
 -- how many descendants a record of size n has: "a record's span is the size words ending with its last"
 abbrev pub descendants : (n : ℕ) → ℕ
-descendants n = (n - 4) / 4
+descendants n = (n - record-width) / record-width
 
 -- Of siblings, the last ones, which hold k records with their descendants; and those before them.
 unfoldable pub nearest : Forest → (k : ℕ) → Forest

@@ -7,21 +7,21 @@ use Prim.Native.Nat.{ℕ, zero, suc, _+_, _-_, _*_, _≤_, min}
 use lib.Dec.{leb, ltb, eqb}
 use lib.ListN.{length, getD, set, take}
 use Rattle.words.specs.Outcome.{accepted, refused}
-use Rattle.words.specs.Words.{id-of, start-of, end-of, last-of}
+use Rattle.words.specs.Words.{id-of, start-of, end-of, last-of, record-width}
 use Rattle.records.specs.Forest.{Forest, empty, add, count, behind, postfix}
 use Rattle.records.specs.Parse.{parse, nearest}
-use Rattle.records.specs.Check.{own-fault, records-check, in-place, first-level-fault}
+use Rattle.records.specs.Check.{own-fault, records-check, in-place, list-range-fault}
 use Rattle.records.specs.declared.Scanned.{Scanned}
 use Rattle.records.specs.declared.Scanned.the-variants.{Refused, Ordered, Unordered}
 
 -- the first p records as a forest: its first level are those that no record among them has inside its span
 unfoldable pub finished : List ℕ → ℕ → Forest
-finished ws p = parse (take (p * 4) ws)
+finished ws p = parse (take (p * record-width) ws)
 
 -- the first p records have no fault: they are the list of that forest
 pub record Spelt (ws : List ℕ) (p : ℕ) : Type 0 where
-  pub within : p * 4 ≤ length ws
-  pub spelt : postfix (finished ws p) ≡ take (p * 4) ws
+  pub within : p * record-width ≤ length ws
+  pub spelt : postfix (finished ws p) ≡ take (p * record-width) ws
 
 -- the first of 6 to 8 that applies to record i, or 0
 abbrev pub fault-at : (T : ℕ) → List ℕ → ℕ → ℕ
@@ -56,7 +56,7 @@ pushed n w height from start = set (set (set w from height) (n + height * 2) fro
 -- what the scan answers: 6 to 9 refuse; or they do not, and 10 does not either; or they do not
 abbrev pub Says : (T S : ℕ) → List ℕ → Scanned → Type 0
 Says T S ws (Refused number place) = records-check T empty ws ≡ refused number place
-Says T S ws Ordered = (records-check T empty ws ≡ accepted []) × (first-level-fault S ws ≡ none)
+Says T S ws Ordered = (records-check T empty ws ≡ accepted []) × (list-range-fault S ws ≡ none)
 Says T S ws Unordered = records-check T empty ws ≡ accepted []
 
 -- none of 6 to 9 applies, under some type count

@@ -5,12 +5,14 @@ ghost use mathlib.Core.Bool.{true, cond, _&&_};
 ghost use Prim.Native.Nat.{ℕ, _+_, _-_, _*_, _/_, _%_, _<_, _≤_, min};
 ghost use lib.Dec.{leb};
 ghost use lib.ListN.{length, set};
-ghost use Rattle.words.specs.Words.{id-of, start-of, end-of, last-of};
+ghost use Rattle.words.specs.Words.{id-of, start-of, end-of, last-of, record-width};
 ghost use Rattle.records.specs.Forest.{behind};
 ghost use Rattle.records.specs.Parse.{nearest};
-ghost use Rattle.records.specs.Check.{fills, in-place, first-level-fault, range-outcome, list-check, check};
+ghost use Rattle.records.specs.Check.{fills, in-place, list-range-fault, range-outcome, list-check, check};
 ghost use Rattle.records.specs.Taking.{finished, Spelt, fault-at, reaches, begins-at, pushed, Says, Faultless, judged};
 ghost use Rattle.records.specs.Answer.{checked-outcome};
+use words::RECORD_SIZE;
+use words::RECORD_WIDTH;
 
 // What the check answers.
 pub enum Checked {
@@ -32,39 +34,39 @@ pub enum Scanned {
 
 // The four words of record i.
 pub fn id_at(records: &[u32], i: usize) -> u32
-    requires { ⌜ i * 4 + 4 ≤ length (now records) ⌝ }
+    requires { ⌜ i * record-width + record-width ≤ length (now records) ⌝ }
     ensures { λ r. ⌜ r ≡ id-of (now (records .entry)) i ⌝ }
 {
-    records[i * 4]
+    records[i * RECORD_WIDTH]
 }
 
 pub fn start_at(records: &[u32], i: usize) -> u32
-    requires { ⌜ i * 4 + 4 ≤ length (now records) ⌝ }
+    requires { ⌜ i * record-width + record-width ≤ length (now records) ⌝ }
     ensures { λ r. ⌜ r ≡ start-of (now (records .entry)) i ⌝ }
 {
-    records[i * 4 + 1]
+    records[i * RECORD_WIDTH + 1]
 }
 
 pub fn end_at(records: &[u32], i: usize) -> u32
-    requires { ⌜ i * 4 + 4 ≤ length (now records) ⌝ }
+    requires { ⌜ i * record-width + record-width ≤ length (now records) ⌝ }
     ensures { λ r. ⌜ r ≡ end-of (now (records .entry)) i ⌝ }
 {
-    records[i * 4 + 2]
+    records[i * RECORD_WIDTH + 2]
 }
 
 pub fn size_at(records: &[u32], i: usize) -> u32
-    requires { ⌜ i * 4 + 4 ≤ length (now records) ⌝ }
+    requires { ⌜ i * record-width + record-width ≤ length (now records) ⌝ }
     ensures { λ r. ⌜ r ≡ last-of (now (records .entry)) i ⌝ }
 {
-    records[i * 4 + 3]
+    records[i * RECORD_WIDTH + 3]
 }
 
 // How many records the span of record i holds.
 pub fn span_at(records: &[u32], i: usize) -> usize
-    requires { ⌜ i * 4 + 4 ≤ length (now records) ⌝ }
-    ensures { λ r. ⌜ r ≡ last-of (now (records .entry)) i / 4 ⌝ }
+    requires { ⌜ i * record-width + record-width ≤ length (now records) ⌝ }
+    ensures { λ r. ⌜ r ≡ last-of (now (records .entry)) i / record-width ⌝ }
 {
-    (size_at(records, i) / 4) as usize
+    (size_at(records, i) / RECORD_SIZE) as usize
 }
 
 // One record back: from behind record p - 1 to before it.
@@ -77,7 +79,7 @@ pub fn back(p: usize) -> usize
 
 // The first of the refusals 6 to 8 that record i draws by itself, or 0.
 fn own_fault(types: u32, records: &[u32], i: usize) -> u32
-    requires { ⌜ i * 4 + 4 ≤ length (now records) ⌝ }
+    requires { ⌜ i * record-width + record-width ≤ length (now records) ⌝ }
     ensures { λ r. ⌜ r ≡ fault-at types (now (records .entry)) i ⌝ }
 {
     if types <= id_at(records, i) {
@@ -87,16 +89,16 @@ fn own_fault(types: u32, records: &[u32], i: usize) -> u32
         return 7;
     }
     let size = size_at(records, i) as usize;
-    if size == 4 {
+    if size == RECORD_WIDTH {
         return 0;
     }
-    if size < 4 {
+    if size < RECORD_WIDTH {
         return 8;
     }
-    if size % 4 != 0 {
+    if size % RECORD_WIDTH != 0 {
         return 8;
     }
-    if 4 * (i + 1) < size {
+    if RECORD_WIDTH * (i + 1) < size {
         return 8;
     }
     0
@@ -116,7 +118,7 @@ fn behind_at(records: &[u32], p: usize, left: usize, lo: u32) -> u32
 
 // Whether record i starts at or after the end of the record before `from`, or at or after `start` if there is none.
 fn follows(records: &[u32], i: usize, from: usize, start: u32) -> bool
-    requires { ⌜ i * 4 + 4 ≤ length (now records) ⌝ }
+    requires { ⌜ i * record-width + record-width ≤ length (now records) ⌝ }
     requires { ⌜ Spelt (now records) from ⌝ }
     ensures { λ r. ⌜ r ≡ leb (behind start (finished (now (records .entry)) from)) (start-of (now (records .entry)) i) ⌝ }
 {
@@ -125,7 +127,7 @@ fn follows(records: &[u32], i: usize, from: usize, start: u32) -> bool
 
 // Whether record i reaches from its first child's start to its last child's end.
 fn covers(records: &[u32], i: usize, first: u32) -> bool
-    requires { ⌜ i * 4 + 4 ≤ length (now records) ⌝ }
+    requires { ⌜ i * record-width + record-width ≤ length (now records) ⌝ }
     requires { ⌜ 0 < i ⌝ }
     ensures { λ r. ⌜ r ≡ reaches (start-of (now (records .entry)) i) (end-of (now (records .entry)) i) first (end-of (now (records .entry)) (i - 1)) ⌝ }
 {
@@ -170,12 +172,12 @@ fn push(work: &mut [u32], n: usize, height: usize, from: usize, start: u32)
 // first child of a record is found at once, by the record at which both spans begin. Only its start and the last child's end
 // are compared with the record's range: the children are in order.
 fn scan_records(types: u32, start: u32, records: &[u32], work: &mut [u32]) -> Scanned
-    requires { ⌜ length (now records) % 4 ≡ 0 ⌝ }
-    requires { ⌜ length (now records) / 4 ≤ 1048576 ⌝ }
-    requires { ⌜ length (now records) / 4 * 3 ≤ length (now work) ⌝ }
+    requires { ⌜ length (now records) % record-width ≡ 0 ⌝ }
+    requires { ⌜ length (now records) / record-width ≤ 1048576 ⌝ }
+    requires { ⌜ length (now records) / record-width * 3 ≤ length (now work) ⌝ }
     ensures { λ r. ⌜ Says types start (now (records .entry)) r ⌝ }
 {
-    let n = records.len() / 4;
+    let n = records.len() / RECORD_WIDTH;
     let mut ordered = true;
     let mut height: usize = 0;
     let mut i: usize = 0;
@@ -184,7 +186,7 @@ fn scan_records(types: u32, start: u32, records: &[u32], work: &mut [u32]) -> Sc
         if fault != 0 {
             return Scanned::Refused(fault, i as u32);
         }
-        if size_at(records, i) == 4 {
+        if size_at(records, i) == RECORD_SIZE {
             ordered = both(ordered, follows(records, i, i, start));
             push(work, n, height, i, start_at(records, i));
             height += 1;
@@ -210,7 +212,7 @@ fn scan_records(types: u32, start: u32, records: &[u32], work: &mut [u32]) -> Sc
 
 // Whether record i stands from lo to hi and starts at or after `after`.
 fn stands(records: &[u32], i: usize, lo: u32, hi: u32, after: u32) -> bool
-    requires { ⌜ i * 4 + 4 ≤ length (now records) ⌝ }
+    requires { ⌜ i * record-width + record-width ≤ length (now records) ⌝ }
     ensures { λ r. ⌜ r ≡ in-place lo hi after (start-of (now (records .entry)) i) (end-of (now (records .entry)) i) ⌝ }
 {
     let start = start_at(records, i);
@@ -227,7 +229,7 @@ fn stands(records: &[u32], i: usize, lo: u32, hi: u32, after: u32) -> bool
 }
 
 // The lowest offender so far, after record number i.
-fn noted(good: bool, low: usize, i: usize) -> usize
+fn lowest_yet(good: bool, low: usize, i: usize) -> usize
     ensures { λ r. ⌜ r ≡ cond good low (min low i) ⌝ }
 {
     if good {
@@ -254,7 +256,7 @@ fn judge(records: &[u32], i: usize, k: usize, lo: u32, hi: u32, lowest: usize) -
         p -= span;
         let after = behind_at(records, p, left, lo);
         let good = stands(records, child, lo, hi, after);
-        low = noted(good, low, child);
+        low = lowest_yet(good, low, child);
     }
     low
 }
@@ -262,12 +264,12 @@ fn judge(records: &[u32], i: usize, k: usize, lo: u32, hi: u32, lowest: usize) -
 // 10, lowest record first, where none of 6 to 9 applies. `low` is the lowest record below the first level to which 10
 // applies, n for none.
 fn check_ranges(start: u32, records: &[u32]) -> Checked
-    requires { ⌜ length (now records) % 4 ≡ 0 ⌝ }
-    requires { ⌜ length (now records) / 4 ≤ 1048576 ⌝ }
+    requires { ⌜ length (now records) % record-width ≡ 0 ⌝ }
+    requires { ⌜ length (now records) / record-width ≤ 1048576 ⌝ }
     requires { ⌜ Faultless (now records) ⌝ }
-    ensures { λ r. ⌜ checked-outcome r ≡ range-outcome (length (now (records .entry)) / 4) (first-level-fault start (now (records .entry))) ⌝ }
+    ensures { λ r. ⌜ checked-outcome r ≡ range-outcome (length (now (records .entry)) / record-width) (list-range-fault start (now (records .entry))) ⌝ }
 {
-    let n = records.len() / 4;
+    let n = records.len() / RECORD_WIDTH;
     let mut low = n;
     let mut i: usize = 0;
     while i < n {
@@ -284,9 +286,9 @@ fn check_ranges(start: u32, records: &[u32]) -> Checked
 
 // 6 to 9 record by record, then 10.
 fn check_records(types: u32, start: u32, records: &[u32], work: &mut [u32]) -> Checked
-    requires { ⌜ length (now records) % 4 ≡ 0 ⌝ }
-    requires { ⌜ length (now records) / 4 ≤ 1048576 ⌝ }
-    requires { ⌜ length (now records) / 4 * 3 ≤ length (now work) ⌝ }
+    requires { ⌜ length (now records) % record-width ≡ 0 ⌝ }
+    requires { ⌜ length (now records) / record-width ≤ 1048576 ⌝ }
+    requires { ⌜ length (now records) / record-width * 3 ≤ length (now work) ⌝ }
     ensures { λ r. ⌜ checked-outcome r ≡ list-check types start (now (records .entry)) ⌝ }
 {
     let scanned = scan_records(types, start, records, work);
@@ -295,7 +297,7 @@ fn check_records(types: u32, start: u32, records: &[u32], work: &mut [u32]) -> C
             return Checked::Refused(number, place);
         }
         Scanned::Ordered => {
-            return Checked::Records((records.len() / 4) as u32);
+            return Checked::Records((records.len() / RECORD_WIDTH) as u32);
         }
         Scanned::Unordered => {
             return check_ranges(start, records);
@@ -324,13 +326,13 @@ pub fn check(
     if types <= top {
         return Checked::Refused(3, 0);
     }
-    if records.len() % 4 != 0 {
+    if records.len() % RECORD_WIDTH != 0 {
         return Checked::Refused(4, 0);
     }
-    if 1048576 < records.len() / 4 {
+    if 1048576 < records.len() / RECORD_WIDTH {
         return Checked::Refused(5, 0);
     }
-    if work.len() < 96 * (records.len() / 4) + 96 {
+    if work.len() < 96 * (records.len() / RECORD_WIDTH) + 96 {
         return Checked::Refused(11, 0);
     }
     check_records(types, start, records, work)

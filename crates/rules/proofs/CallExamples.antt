@@ -6,7 +6,7 @@ use Prim.Native.Nat.{ℕ}
 use lib.ListN.{replicate}
 use Rattle.words.specs.Outcome.{accepted, refused, Result}
 use Rattle.part.specs.Part.{part-check, faults-from, fault, own-fault, crosses}
-use Rattle.records.specs.Forest.{line, below}
+use Rattle.records.specs.Forest.{line, depth-below}
 use Rattle.tree.specs.Trees.{_⊕_, nodes, kids-of, siblings}
 use Rattle.tree.specs.Materialise.{within, beyond, unpack, materialise}
 use Rattle.tree.specs.Balance.{balanced}
@@ -28,7 +28,7 @@ unfolding bad-cell cells-of first-child chain chains any-part named top-broken k
 balances T cs ws work out words = balance-call T cs ws work out words
 
 unfoldable pub listed : (T F S : ℕ) (cs : List ℕ) (work : ℕ) (out : List ℕ) → Result
-unfolding bad-cell cells-of first-child chain chains any-part named top-broken kind-broken id-broken link-broken count-broken place-broken order-broken inside-broken end-broken part-broken stray-broken any-of broken next-named first-named words-end lowest-from top-named part-kept ranges bound earliest still part-check faults-from fault own-fault crosses items unless-bad lines-room list-call absolute leading following cell-tree decode-from decode lines list-cells listing node-line node-below line below kids-of
+unfolding bad-cell cells-of first-child chain chains any-part named top-broken kind-broken id-broken link-broken count-broken place-broken order-broken inside-broken end-broken part-broken stray-broken any-of broken next-named first-named words-end lowest-from top-named part-kept ranges bound earliest still part-check faults-from fault own-fault crosses items unless-bad lines-room list-call absolute leading following cell-tree decode-from decode lines list-cells listing node-line node-below line depth-below kids-of
 listed T F S cs work out = list-call T F S cs work out
 
 -- P with b 1,024 and with b 1

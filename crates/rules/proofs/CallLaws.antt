@@ -18,7 +18,8 @@ use Rattle.tree.specs.Balance.{balanced}
 use Rattle.tree.specs.Cells.{cell-width}
 use Rattle.tree.specs.Calls.{Written, build-cells, materialise-cells, balance-cells, list-cells}
 use Rattle.rules.specs.Lowest.{bad-cell}
-use Rattle.rules.specs.Calls.{line-width, items, unless-bad, result-room, lines-room, handed-in, materialise-call, most-items, balance-room, balance-call, list-call}
+use Rattle.tree.specs.Listing.{line-width}
+use Rattle.rules.specs.Calls.{items, unless-bad, result-room, lines-room, handed-in, materialise-call, most-items, balance-room, balance-call, list-call}
 use Rattle.rules.proofs.Accepted.{build-accepted, materialise-accepted}
 use Rattle.tree.proofs.CallLaws.{cells-short, words-short, room-enough}
 

@@ -14,7 +14,8 @@ use Rattle.tree.specs.Calls.{materialise-cells}
 use Rattle.tree.specs.Run.{Run, built, materialised, listed}
 use Rattle.tree.proofs.CellLaws.{length-tree-cells}
 use Rattle.tree.proofs.RunLaws.{materialised-cells}
-use Rattle.rules.specs.Calls.{line-width, items, handed-in, materialise-call, list-call}
+use Rattle.tree.specs.Listing.{line-width}
+use Rattle.rules.specs.Calls.{items, handed-in, materialise-call, list-call}
 use Rattle.rules.proofs.CallLaws.{run-materialises, run-lists}
 
 module _ (F S : ℕ) (fits : S ≤ 4294967295) (r : Run F S) where

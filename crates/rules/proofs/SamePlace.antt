@@ -13,7 +13,7 @@ use lib.Dec.{eqb}
 use lib.ListN.{length, length-drop}
 use Rattle.tree.specs.Cells.{cell-width}
 use Rattle.rules.specs.Cell.{Cell, cells-of, first-child}
-use Rattle.rules.specs.Rules.{blank, cell, Leads, On, begins, goes-on, Below, child, deeper, Starts, top-starts, child-starts, words-before, Breaks, unreached, Lowest, Place, no-cells, at-cell}
+use Rattle.rules.specs.Rules.{blank, cell, Leads, On, begins, goes-on, Below, child, deeper, Starts, top-starts, child-starts, words-before, Breaks, unreached, LowestCell, Place, no-cells, at-cell}
 use Rattle.rules.specs.Lowest.{Named, named, place-broken, order-broken, inside-broken, end-broken, broken, next-named, first-named, words-end, lowest-from, top-named, bad-cell}
 use Rattle.rules.proofs.Tests.{neither, none-left}
 use Rattle.rules.proofs.Keeping.{Keeps, keeps}
@@ -33,7 +33,7 @@ module _ (ks : List Cell) (T S : ℕ) (parts : Bool) (ws : List ℕ) where
 
   -- what a number says: 0 for no cell that breaks a rule, else the lowest one
   abbrev Found : ℕ → Type 0
-  Found r = ((r ≡ 0) × ((b : ℕ) → 1 ≤ b → b ≤ length ks → Breaks ks T S parts ws b → ⊥)) ⊎ Lowest ks T S parts ws r
+  Found r = ((r ≡ 0) × ((b : ℕ) → 1 ≤ b → b ≤ length ks → Breaks ks T S parts ws b → ⊥)) ⊎ LowestCell ks T S parts ws r
 
   words-next : (c w : ℕ) → w ≡ words-before ks c → words-end w (cell ks c) ≡ words-before ks (suc c)
   unfolding words-end words-before
@@ -222,7 +222,7 @@ module _ (ks : List Cell) (T S : ℕ) (parts : Bool) (ws : List ℕ) where
           let e : ks ≡ [] = none-left ks (omega arith) in
           inl (ap (lowest-from T parts ws (length ks) 1 0 (top-named S ∷ [])) e ∙ lowest-end 1 0 (top-named S ∷ []), (λ b a m. absurd (omega arith)))
 
-  pub lowest-one : (b c : ℕ) → Lowest ks T S parts ws b → Lowest ks T S parts ws c → b ≡ c
+  pub lowest-one : (b c : ℕ) → LowestCell ks T S parts ws b → LowestCell ks T S parts ws c → b ≡ c
   lowest-one b c x y = go (decLt b c) (decLt c b)
     where
       go : Dec (b < c) → Dec (c < b) → b ≡ c
@@ -236,7 +236,7 @@ cells-none [] h = refl
 cells-none (c ∷ cs) h = absurd (omega arith)
 
 module _ (T S : ℕ) (parts : Bool) (cs ws : List ℕ) where
-  misfit : (c : ℕ) → (length cs ≡ 0) ⊎ (length cs % cell-width ≡ 0 → ⊥) → length cs % cell-width ≡ 0 → Lowest (cells-of cs) T S parts ws c → ⊥
+  misfit : (c : ℕ) → (length cs ≡ 0) ⊎ (length cs % cell-width ≡ 0 → ⊥) → length cs % cell-width ≡ 0 → LowestCell (cells-of cs) T S parts ws c → ⊥
   misfit c (inl n) m l = omega (arith, l .from, l .to, cells-none cs n)
   misfit c (inr n) m l = n m
 

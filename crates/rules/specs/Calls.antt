@@ -7,21 +7,18 @@ use Prim.Native.Nat.{ℕ, _+_, _*_, _/_}
 use lib.Dec.{ltb}
 use lib.ListN.{length}
 use Rattle.words.specs.Outcome.{Outcome, accepted, refused, unless-found, Result, settled}
-use Rattle.words.specs.Words.{front}
+use Rattle.words.specs.Words.{front, record-width}
 use Rattle.tree.specs.Trees.{Trees, nodes}
 use Rattle.tree.specs.Materialise.{materialise}
 use Rattle.tree.specs.Balance.{balanced}
+use Rattle.tree.specs.Listing.{line-width}
 use Rattle.tree.specs.Cells.{cell-width, absolute, decode}
 use Rattle.tree.specs.Calls.{room, materialise-cells, balance-cells, list-cells}
 use Rattle.rules.specs.Lowest.{bad-cell}
 
--- "listing lines (four words each)"
-abbrev pub line-width : ℕ
-line-width = 4
-
 -- "items are .. whole cells plus a quarter (rounded down) of the packed words in tree calls"
 unfoldable pub items : (cs ws : List ℕ) → ℕ
-items cs ws = length cs / cell-width + length ws / 4
+items cs ws = length cs / cell-width + length ws / record-width
 
 -- "1: T above 65,536"; "11: work slice below 96 × items + 96 words"; 15, at the lowest cell that breaks a rule; then what follows.
 -- Absolute ends are counted from S; `parts`: are parts allowed?

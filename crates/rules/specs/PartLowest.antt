@@ -4,6 +4,7 @@ use mathlib.Core.Bool.{Bool, true, false, _&&_}
 use mathlib.Core.List.{List, [], _∷_}
 use Prim.Native.Nat.{ℕ, _+_}
 use lib.Dec.{leb}
+use Rattle.words.specs.Words.{record-width}
 use Rattle.words.specs.Outcome.{Outcome, accepted, refused}
 use Rattle.part.specs.Part.{part-check}
 
@@ -37,7 +38,7 @@ ranges l off lo outer (i ∷ s ∷ e ∷ []) = true
 ranges l off lo outer (i ∷ s ∷ e ∷ x ∷ ws) =
     leb (earliest off lo outer) s
     && (leb e (bound l (still off outer))
-    && ranges l (off + 4) s (record { stop = x; end = e } ∷ still off outer) ws)
+    && ranges l (off + record-width) s (record { stop = x; end = e } ∷ still off outer) ws)
 
 -- does nothing refuse it?
 abbrev pub is-accepted : Outcome → Bool

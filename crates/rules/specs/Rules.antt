@@ -105,7 +105,7 @@ module _ (ks : List Cell) where
       words-alone : c ≡ 1 → ((b : ℕ) → cell b .kind ≡ 2 → ⊥) → (length ws ≡ 0 → ⊥) → Breaks c
 
     -- "lowest such cell"
-    pub record Lowest (c : ℕ) : Type 0 where
+    pub record LowestCell (c : ℕ) : Type 0 where
       pub from : 1 ≤ c
       pub to : c ≤ length ks
       pub breaks : Breaks c
@@ -114,4 +114,4 @@ module _ (ks : List Cell) where
 -- The place of refusal 15: "lowest such cell; 0 if the slice is empty or no multiple of 7". Without a place 15 does not apply.
 pub data Place (T S : ℕ) (parts : Bool) (cs ws : List ℕ) : (place : ℕ) → Type 0 where
   no-cells : (length cs ≡ 0) ⊎ (length cs % cell-width ≡ 0 → ⊥) → Place T S parts cs ws 0
-  at-cell : (c : ℕ) → length cs % cell-width ≡ 0 → Lowest (cells-of cs) T S parts ws c → Place T S parts cs ws c
+  at-cell : (c : ℕ) → length cs % cell-width ≡ 0 → LowestCell (cells-of cs) T S parts ws c → Place T S parts cs ws c

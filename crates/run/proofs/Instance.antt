@@ -7,9 +7,9 @@ use Prim.Native.Nat.{ℕ, _≤_}
 use native.Mathlib.Omega.{arith}
 use lib.ListN.{length}
 use Rattle.words.specs.Outcome.{number-of}
-use Rattle.records.specs.Forest.{count, behind, line, below, reading, levels}
+use Rattle.records.specs.Forest.{count, behind, line, depth-below, reading, levels}
 use Rattle.records.specs.Parse.{nearest, farther, parse-from, parse}
-use Rattle.records.specs.Check.{own-fault, fills, record-fault, records-check, in-place, or-else, range-fault, first-level-fault, list-check, check, Accepted}
+use Rattle.records.specs.Check.{own-fault, fills, record-fault, records-check, in-place, or-else, range-fault, list-range-fault, list-check, check, Accepted}
 use Rattle.records.proofs.AcceptLaws.{check-accepted}
 use Rattle.tree.specs.Trees.{_⊕_, nodes, siblings, is-nil, kids-of, first-start, last-end}
 use Rattle.tree.specs.Items.{repeats, same, items as items-of, records, first, leftmost}
@@ -24,16 +24,16 @@ use Rattle.tree.specs.Calls.{Written, written, build-cells, materialise-cells}
 use Rattle.tree.specs.Run.{Run, built, materialised, read}
 use Rattle.tree.proofs.Table.{P, cells-1024, words-1024, cells-1, lines-P, nines}
 use Rattle.rules.specs.Calls.{items}
-use Rattle.run.specs.Running.{cells-of, words-of, lines-of}
+use Rattle.run.specs.Running.{run-cells, run-words, run-lines}
 use Rattle.run.specs.Lent.{Lent, Lent-run, ran}
 use Rattle.run.proofs.TwoRuns.{two-runs}
 
 pub accepted-1024 : Accepted 4 1024 0 0 P
-unfolding check list-check first-level-fault range-fault or-else in-place records-check record-fault fills own-fault parse parse-from nearest farther behind count
+unfolding check list-check list-range-fault range-fault or-else in-place records-check record-fault fills own-fault parse parse-from nearest farther behind count
 accepted-1024 = check-accepted 4 1024 0 0 384 P refl
 
 pub accepted-1 : Accepted 4 1 0 0 P
-unfolding check list-check first-level-fault range-fault or-else in-place records-check record-fault fills own-fault parse parse-from nearest farther behind count
+unfolding check list-check list-range-fault range-fault or-else in-place records-check record-fault fills own-fault parse parse-from nearest farther behind count
 accepted-1 = check-accepted 4 1 0 0 384 P refl
 
 pub two-levels : levels (parse P) ≡ 2
@@ -56,11 +56,11 @@ unfolding built build-cells build first-level walk too-deep written tree-cells c
 built-1 = refl
 
 read-1024 : read 4 0 run-1024 ≡ lines-P
-unfolding read reading line below parse parse-from nearest farther count
+unfolding read reading line depth-below parse parse-from nearest farther count
 read-1024 = refl
 
 read-1 : read 4 0 run-1 ≡ lines-P
-unfolding read reading line below parse parse-from nearest farther count
+unfolding read reading line depth-below parse parse-from nearest farther count
 read-1 = refl
 
 -- materialising gives the four cells of the run that packs nothing
@@ -107,5 +107,5 @@ abbrev pub unpacked : Lent-run 4 0
 unpacked = record { run = run-1; works = record { build = 384; materialise = 480; list = 480 }; cells = nines 28; words = []; trees = nines 28; lines = nines 12; lent = lent-1 }
 
 -- Neither run is refused, and both list "0,3,0,6 / 1,1,0,2 / 1,2,3,5".
-pub P-twice : (number-of ((ran 4 0 packing) .outcome) ≡ 0) × (number-of ((ran 4 0 unpacked) .outcome) ≡ 0) × (lines-of (ran 4 0 packing) ≡ lines-P) × (lines-of (ran 4 0 unpacked) ≡ lines-P)
+pub P-twice : (number-of ((ran 4 0 packing) .outcome) ≡ 0) × (number-of ((ran 4 0 unpacked) .outcome) ≡ 0) × (run-lines (ran 4 0 packing) ≡ lines-P) × (run-lines (ran 4 0 unpacked) ≡ lines-P)
 P-twice = let both = two-runs 4 0 (omega arith) packing unpacked in (both .0, both .1, both .2 ∙ read-1024, both .3 ∙ read-1)

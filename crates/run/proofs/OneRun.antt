@@ -9,7 +9,7 @@ use lib.ListN.{length, take, drop, length-append}
 use lib.Seq.{take-at, take-append-seam}
 use Rattle.words.specs.Outcome.{accepted, Result}
 use Rattle.words.specs.Words.{front}
-use Rattle.records.specs.Forest.{Forest, empty, add, line, below, reading}
+use Rattle.records.specs.Forest.{Forest, empty, add, line, depth-below, reading}
 use Rattle.records.specs.Parse.{parse}
 use Rattle.tree.specs.Build.{build}
 use Rattle.tree.specs.Materialise.{materialise}
@@ -19,7 +19,8 @@ use Rattle.tree.specs.Run.{Run, built, materialised, listed, read}
 use Rattle.tree.proofs.CellLaws.{length-tree-cells}
 use Rattle.tree.proofs.RunLaws.{run-builds, built-cells, built-words, materialised-cells, listed-lines}
 use Rattle.tree.proofs.TwoRuns as tree
-use Rattle.rules.specs.Calls.{line-width, items}
+use Rattle.tree.specs.Listing.{line-width}
+use Rattle.rules.specs.Calls.{items}
 use Rattle.rules.proofs.RunCalls.{run-materialised, run-listed}
 use Rattle.run.specs.Running.{Steps, Works, none-left, followed, count-at, output-at, list-steps, read-call, run-call}
 use Rattle.run.specs.Lent.{Lent}
@@ -39,10 +40,10 @@ unfolding reading
 whole-lines F d empty = (0, refl)
 whole-lines F d (add before i s e kids) =
     let own = line F d i s e in
-    let inside = reading F (below F d i) kids in
+    let inside = reading F (depth-below F d i) kids in
     let a = whole-lines F d before in
     let b = whole-line F d i s e in
-    let c = whole-lines F (below F d i) kids in
+    let c = whole-lines F (depth-below F d i) kids in
     (a .0 + b .0 + c .0, omega (arith, length-append (reading F d before) (own ++ inside), length-append own inside, a .1, b .1, c .1))
 
 module _ (F S : ℕ) (fits : S ≤ 4294967295) (r : Run F S) where

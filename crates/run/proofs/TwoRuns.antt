@@ -8,7 +8,7 @@ use Prim.Native.Nat.{ℕ, _≤_}
 use Rattle.words.specs.Outcome.{number-of}
 use Rattle.tree.specs.Run.{built, read}
 use Rattle.tree.proofs.TwoRuns as tree
-use Rattle.run.specs.Running.{Steps, cells-of, words-of, lines-of}
+use Rattle.run.specs.Running.{Steps, run-cells, run-words, run-lines}
 use Rattle.run.specs.Lent.{Lent-run, ran}
 use Rattle.run.proofs.OneRun.{counted-cells, counted-words, counted-lines, run-reads}
 
@@ -18,22 +18,22 @@ module _ (F S : ℕ) (fits : S ≤ 4294967295) where
     not-refused : number-of ((ran F S a) .outcome) ≡ 0
     not-refused = ap (λ (s : Steps). number-of (s .outcome)) (run-reads F S fits (a .run) (a .works) (a .cells) (a .words) (a .trees) (a .lines) (a .lent))
 
-    lines-read : lines-of (ran F S a) ≡ read F S (a .run)
-    lines-read = ap lines-of (run-reads F S fits (a .run) (a .works) (a .cells) (a .words) (a .trees) (a .lines) (a .lent)) ∙ counted-lines F S fits (a .run) (a .lines)
+    lines-read : run-lines (ran F S a) ≡ read F S (a .run)
+    lines-read = ap run-lines (run-reads F S fits (a .run) (a .works) (a .cells) (a .words) (a .trees) (a .lines) (a .lent)) ∙ counted-lines F S fits (a .run) (a .lines)
 
-    cells-built : cells-of (ran F S a) ≡ (built F S (a .run)) .cells
-    cells-built = ap cells-of (run-reads F S fits (a .run) (a .works) (a .cells) (a .words) (a .trees) (a .lines) (a .lent)) ∙ counted-cells F S fits (a .run) (a .cells)
+    cells-built : run-cells (ran F S a) ≡ (built F S (a .run)) .cells
+    cells-built = ap run-cells (run-reads F S fits (a .run) (a .works) (a .cells) (a .words) (a .trees) (a .lines) (a .lent)) ∙ counted-cells F S fits (a .run) (a .cells)
 
-    words-built : words-of (ran F S a) ≡ (built F S (a .run)) .words
-    words-built = ap words-of (run-reads F S fits (a .run) (a .works) (a .cells) (a .words) (a .trees) (a .lines) (a .lent)) ∙ counted-words F S fits (a .run) (a .words)
+    words-built : run-words (ran F S a) ≡ (built F S (a .run)) .words
+    words-built = ap run-words (run-reads F S fits (a .run) (a .works) (a .cells) (a .words) (a .trees) (a .lines) (a .lent)) ∙ counted-words F S fits (a .run) (a .words)
 
   -- Neither run is refused; the lines of each are the ordinary reading of its own list; the lines of the two are the same exactly when
   -- the readings are; and lists that differ in that reading never end in the same cells and packed words.
   pub two-runs : (A B : Lent-run F S)
       → (number-of ((ran F S A) .outcome) ≡ 0) × (number-of ((ran F S B) .outcome) ≡ 0)
-      × (lines-of (ran F S A) ≡ read F S (A .run)) × (lines-of (ran F S B) ≡ read F S (B .run))
-      × ((lines-of (ran F S A) ≡ lines-of (ran F S B)) ↔ (read F S (A .run) ≡ read F S (B .run)))
-      × ((read F S (A .run) ≡ read F S (B .run) → ⊥) → (cells-of (ran F S A) ≡ cells-of (ran F S B)) × (words-of (ran F S A) ≡ words-of (ran F S B)) → ⊥)
+      × (run-lines (ran F S A) ≡ read F S (A .run)) × (run-lines (ran F S B) ≡ read F S (B .run))
+      × ((run-lines (ran F S A) ≡ run-lines (ran F S B)) ↔ (read F S (A .run) ≡ read F S (B .run)))
+      × ((read F S (A .run) ≡ read F S (B .run) → ⊥) → (run-cells (ran F S A) ≡ run-cells (ran F S B)) × (run-words (ran F S A) ≡ run-words (ran F S B)) → ⊥)
   two-runs A B =
       let one = lines-read A in
       let two = lines-read B in (

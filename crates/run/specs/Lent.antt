@@ -2,12 +2,13 @@
 use mathlib.Core.List.{List, []}
 use Prim.Native.Nat.{ℕ, _+_, _*_, _/_, _≤_}
 use lib.ListN.{length}
+use Rattle.words.specs.Words.{record-width}
 use Rattle.tree.specs.Run.{Run, built, materialised, read}
 use Rattle.rules.specs.Calls.{items}
 use Rattle.run.specs.Running.{Steps, Works, run-call}
 
 pub record Lent (F S : ℕ) (r : Run F S) (works : Works) (cells words trees lines : List ℕ) : Type 0 where
-  pub build-work : 96 * (length (r .records) / 4) + 96 ≤ works .build
+  pub build-work : 96 * (length (r .records) / record-width) + 96 ≤ works .build
   pub materialise-work : 96 * items ((built F S r) .cells) ((built F S r) .words) + 96 ≤ works .materialise
   pub list-work : 96 * items (materialised F S r) [] + 96 ≤ works .list
   pub cells-space : length ((built F S r) .cells) ≤ length cells

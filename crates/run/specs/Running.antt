@@ -7,7 +7,8 @@ use lib.ListN.{getD, take}
 use Rattle.words.specs.Outcome.{Outcome, accepted, refused, counts-of}
 use Rattle.tree.specs.Cells.{cell-width}
 use Rattle.tree.specs.Calls.{build-call}
-use Rattle.rules.specs.Calls.{line-width, materialise-call, list-call}
+use Rattle.tree.specs.Listing.{line-width}
+use Rattle.rules.specs.Calls.{materialise-call, list-call}
 
 -- What calls in turn give: the outcome of the one that is refused, else the counts of all, in the order of the calls; how many are
 -- accepted; and what the output slices of all then hold.
@@ -69,11 +70,11 @@ run-call T F b S top given works records cells words trees lines =
 
 -- What an accepted run wrote, the counted front of each output: the cells and packed words of the build, and the lines. The counts are
 -- cells and words of the build, cells and words of materialise, lines.
-abbrev pub cells-of : Steps → List ℕ
-cells-of s = take (cell-width * count-at (s .outcome) 0) (output-at (s .outputs) 0)
+abbrev pub run-cells : Steps → List ℕ
+run-cells s = take (cell-width * count-at (s .outcome) 0) (output-at (s .outputs) 0)
 
-abbrev pub words-of : Steps → List ℕ
-words-of s = take (count-at (s .outcome) 1) (output-at (s .outputs) 1)
+abbrev pub run-words : Steps → List ℕ
+run-words s = take (count-at (s .outcome) 1) (output-at (s .outputs) 1)
 
-abbrev pub lines-of : Steps → List ℕ
-lines-of s = take (line-width * count-at (s .outcome) 4) (output-at (s .outputs) 3)
+abbrev pub run-lines : Steps → List ℕ
+run-lines s = take (line-width * count-at (s .outcome) 4) (output-at (s .outputs) 3)

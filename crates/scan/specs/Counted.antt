@@ -4,6 +4,7 @@ use mathlib.Core.Path.{_≡_}
 use mathlib.Core.List.{List}
 use Prim.Native.Nat.{ℕ, _+_, _-_, _*_, _≤_, _<_}
 use lib.ListN.{length, getD}
+use Rattle.words.specs.Words.{record-width}
 use Rattle.cursor.specs.Spells.{skips}
 
 -- word k holds the words of the repeat records among the first k, up to k = n
@@ -23,4 +24,4 @@ pub record Rising (l : List ℕ) (from at : ℕ) : Type 0 where
   pub room : at < length l
   pub small : at < 4294967296
   pub up : getD l from 0 ≤ getD l at 0
-  pub few : getD l at 0 ≤ getD l from 0 + (at - from) * 4
+  pub few : getD l at 0 ≤ getD l from 0 + (at - from) * record-width

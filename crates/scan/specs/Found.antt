@@ -2,6 +2,7 @@
 use mathlib.Core.Path.{_≡_}
 use mathlib.Core.Option.{Option, none, some}
 use Prim.Native.Nat.{ℕ, _-_, _*_}
+use Rattle.words.specs.Words.{record-width}
 use Rattle.tree.specs.Items.{Items, span, records, first, leftmost}
 use Rattle.tree.specs.Pack.{words}
 use Rattle.scan.specs.Walked.{Remembered}
@@ -12,7 +13,7 @@ use Rattle.scan.specs.declared.Scan.the-variants.{Run, Nothing}
 
 -- a run in words: all of them, where its leftmost span starts, and the words of its repeat records
 unfoldable pub measured : (F : ℕ) (start : ℕ) (run : Items) → BufferScan
-measured F start run = record { size = 4 * records run; start = start; skip = 4 * records run - words F run }
+measured F start run = record { size = record-width * records run; start = start; skip = record-width * records run - words F run }
 
 -- "A scan answers a run or nothing": the run of k items behind the span, measured; or nothing, and how far the walk got, with
 -- the limit that it kept.

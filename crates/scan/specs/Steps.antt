@@ -5,6 +5,7 @@ use mathlib.Core.Option.{Option, none, some}
 use Prim.Native.Nat.{ℕ, _-_, _*_, min}
 use lib.Dec.{ltb, leb}
 use lib.ListN.{getD}
+use Rattle.words.specs.Words.{record-width}
 use Rattle.scan.specs.declared.BufferScan.{BufferScan}
 use Rattle.scan.specs.declared.Memo.{Memo}
 use Rattle.scan.specs.declared.Scan.{Scan}
@@ -19,11 +20,11 @@ resumed at m =
 
 -- the run from one place up to another, by the counts
 abbrev pub between : (l : List ℕ) (from at start : ℕ) → BufferScan
-between l from at start = record { size = (at - from) * 4; start = start; skip = getD l at 0 - getD l from 0 }
+between l from at start = record { size = (at - from) * record-width; start = start; skip = getD l at 0 - getD l from 0 }
 
 -- "a run above 4 words packs if its words without repeat records are at most 65,532"
 unfoldable pub packable : (size skip : ℕ) → Bool
-packable size skip = ltb 4 size && leb (size - skip) 65532
+packable size skip = ltb record-width size && leb (size - skip) 65532
 
 -- nothing can pack any more: the ordinary words seen are too many, and the run noted last does not pack
 unfoldable pub settles : (l : List ℕ) (p mark at : ℕ) → Bool

@@ -6,7 +6,7 @@ ghost use mathlib.Core.Bool.{cond};
 ghost use Prim.Native.Nat.{ℕ, _-_, _*_, _/_, _<_, _≤_, min};
 ghost use lib.Dec.{leb};
 ghost use lib.ListN.{length};
-ghost use Rattle.words.specs.Words.{id-of};
+ghost use Rattle.words.specs.Words.{id-of, record-width};
 ghost use Rattle.tree.specs.Items.{Items, same};
 ghost use Rattle.tree.specs.Pack.{run-from};
 ghost use Rattle.cursor.specs.Own.{own-of};
@@ -20,6 +20,8 @@ use records::end_at;
 use records::id_at;
 use records::span_at;
 use records::start_at;
+use words::RECORD_SIZE;
+use words::RECORD_WIDTH;
 
 // A run: its words, where its leftmost span starts, and the words of its repeat records.
 pub struct BufferScan {
@@ -45,18 +47,18 @@ pub enum Scan {
 
 // The words that a record adds to the count.
 fn skipped(first_repeat: u32, id: u32) -> u32
-    ensures { λ r. ⌜ r ≡ cond (leb «first_repeat» id) 4 0 ⌝ }
+    ensures { λ r. ⌜ r ≡ cond (leb «first_repeat» id) record-width 0 ⌝ }
 {
-    if first_repeat <= id { 4 } else { 0 }
+    if first_repeat <= id { RECORD_SIZE } else { 0 }
 }
 
 // Writes for each place how many words of repeat records stand before it.
 pub fn count_repeats(records: &[u32], first_repeat: u32, work: &mut [u32])
-    requires { ⌜ length (now records) / 4 < length (now work) ⌝ }
+    requires { ⌜ length (now records) / record-width < length (now work) ⌝ }
     requires { ⌜ length (now records) < 4294967296 ⌝ }
-    ensures { λ _. ⌜ Counting «first_repeat» (now (records .entry)) (now (work .entry)) (now (work .exit)) (length (now (records .entry)) / 4) ⌝ }
+    ensures { λ _. ⌜ Counting «first_repeat» (now (records .entry)) (now (work .entry)) (now (work .exit)) (length (now (records .entry)) / record-width) ⌝ }
 {
-    let n = records.len() / 4;
+    let n = records.len() / RECORD_WIDTH;
     let mut count: u32 = 0;
     let mut i = 0;
     work[0] = 0;
@@ -100,7 +102,7 @@ fn resume(at: u32, memo: Memo) -> Memo
 // Does the record before place p count alone?
 fn is_mark(records: &[u32], own: InRepeat, p: usize) -> bool
     requires { ⌜ 0 < p ⌝ }
-    requires { ⌜ p * 4 ≤ length (now records) ⌝ }
+    requires { ⌜ p * record-width ≤ length (now records) ⌝ }
     ensures { λ r. ⌜ r ≡ same (own-of own) (id-of (now (records .entry)) (p - 1)) ⌝ }
 {
     is_own(own, id_at(records, p - 1))
@@ -123,7 +125,7 @@ fn packs(size: usize, skip: usize) -> bool
     requires { ⌜ skip ≤ size ⌝ }
     ensures { λ r. ⌜ r ≡ packable size skip ⌝ }
 {
-    if size <= 4 {
+    if size <= RECORD_WIDTH {
         return false;
     }
     size - skip <= 65532

@@ -7,6 +7,7 @@ use lib.ListN.{length, getD}
 use lib.Dec.{ltb, eqb}
 use lib.IntN.{ℤ, pos}
 use lib.Signed.{ltZ}
+use Rattle.words.specs.Words.{record-width}
 use Rattle.words.specs.Outcome.{Outcome, accepted, refused, unless-refused, unless-found}
 use Rattle.words.specs.First.{first-in}
 use Rattle.part.specs.Part.{part-check}
@@ -61,8 +62,8 @@ search-part w types from to direction position base side =
     unless-refused (part-check w types)
     (cond (ltb to from) (refused 21 0)
     (cond (ltb (length w) to) (refused 21 0)
-    (cond (not (eqb (from % 4) 0)) (refused 22 0)
-    (cond (not (eqb (to % 4) 0)) (refused 22 0)
+    (cond (not (eqb (from % record-width) 0)) (refused 22 0)
+    (cond (not (eqb (to % record-width) 0)) (refused 22 0)
     (cond (not (meets w (length w) from to)) (refused 24 0)
     (unless-found 25 (λ at. at) (beyond w from to base)
     (match-counts (child w from to direction position base side))))))))

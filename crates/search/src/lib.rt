@@ -2,6 +2,7 @@
 ghost use mathlib.Core.Path.{_≡_};
 ghost use Prim.Native.Nat.{_+_, _≤_};
 ghost use lib.ListN.{length};
+ghost use Rattle.words.specs.Words.{record-width};
 ghost use Rattle.words.specs.Answer.{place-found};
 ghost use Rattle.search.specs.Side.{on-side};
 ghost use Rattle.search.specs.Search.{matching, meets, beyond, child, search-part};
@@ -9,6 +10,7 @@ ghost use Rattle.search.specs.Way.{Linked};
 ghost use Rattle.search.specs.Answer.{searched-outcome};
 use part::Checked;
 use words::Found;
+use words::RECORD_WIDTH;
 
 pub const SIDE_BEFORE: i8 = -2;
 
@@ -80,7 +82,7 @@ fn way_beyond(words: &[u16], from: usize, to: usize, base: u32) -> Found
 
 // Whether the record at an offset is on the given side of a position.
 fn matches(words: &[u16], at: usize, position: u32, base: u32, side: i8) -> bool
-    requires { ⌜ at + 4 ≤ length (now words) ⌝ }
+    requires { ⌜ at + record-width ≤ length (now words) ⌝ }
     ensures { λ r. ⌜ r ≡ matching (now (words .entry)) position base side at ⌝ }
 {
     let from = (base as u64) + words::wide64(words[at + 1]);
@@ -138,10 +140,10 @@ pub fn search(
     if words.len() < to {
         return Searched::Refused(21, 0);
     }
-    if from % 4 != 0 {
+    if from % RECORD_WIDTH != 0 {
         return Searched::Refused(22, 0);
     }
-    if to % 4 != 0 {
+    if to % RECORD_WIDTH != 0 {
         return Searched::Refused(22, 0);
     }
     if !way_meets(words, from, to) {

@@ -18,7 +18,7 @@ use Rattle.words.proofs.Outcomes.{never}
 use Rattle.words.proofs.Runs.{run-length, run-word}
 use Rattle.part.specs.Part.{part-check}
 use Rattle.part.proofs.Faults.{Sound, part-sound, part-whole}
-use Rattle.slicing.specs.Slice.{below, outside, cut-check}
+use Rattle.slicing.specs.Slice.{starts-below, outside, cut-check}
 use Rattle.slicing.specs.Rebasing.{Rebasable}
 
 -- the first record for which a test holds, one record further back, and once all are passed
@@ -31,24 +31,24 @@ module _ (test : ℕ → Bool) (i n : ℕ) where
 
 -- the outcome of the cut's check by what its two searches find
 module _ (cut : List ℕ) (from to base : ℕ) where
-  pub cut-low : (i : ℕ) → below cut base ≡ some i → cut-check cut from to base ≡ refused 23 (from + i * 4)
+  pub cut-low : (i : ℕ) → starts-below cut base ≡ some i → cut-check cut from to base ≡ refused 23 (from + i * 4)
   unfolding cut-check
   cut-low i h = rw h
 
-  pub cut-far : (i : ℕ) → below cut base ≡ none → outside cut to ≡ some i → cut-check cut from to base ≡ refused 19 (from + i * 4)
+  pub cut-far : (i : ℕ) → starts-below cut base ≡ none → outside cut to ≡ some i → cut-check cut from to base ≡ refused 19 (from + i * 4)
   unfolding cut-check
   cut-far i g h = rw (g, h)
 
-  pub cut-clear : below cut base ≡ none → outside cut to ≡ none → cut-check cut from to base ≡ accepted (length cut / 4 ∷ [])
+  pub cut-clear : starts-below cut base ≡ none → outside cut to ≡ none → cut-check cut from to base ≡ accepted (length cut / 4 ∷ [])
   unfolding cut-check
   cut-clear g h = rw (g, h)
 
   -- an accepted cut has no record that starts below the base
-  pub cut-not-low : (counts : List ℕ) → cut-check cut from to base ≡ accepted counts → below cut base ≡ none
+  pub cut-not-low : (counts : List ℕ) → cut-check cut from to base ≡ accepted counts → starts-below cut base ≡ none
   unfolding cut-check
-  cut-not-low counts h = go (below cut base) refl
+  cut-not-low counts h = go (starts-below cut base) refl
     where
-      go : (o : Option ℕ) → below cut base ≡ o → below cut base ≡ none
+      go : (o : Option ℕ) → starts-below cut base ≡ o → starts-below cut base ≡ none
       go none e = e
       go (some i) e = absurd (never 23 (from + i * 4) counts (rw e at h))
 
@@ -71,7 +71,7 @@ module _ (w : List ℕ) (types from to : ℕ) (counts : List ℕ) (ok : part-che
   cut-sound : (i : ℕ) → i < length (run w from to) / 4 → Sound w types (from / 4 + i)
   cut-sound i l = part-sound w types counts ok (from / 4 + i) (omega (arith, run-length w from to a b))
 
-  pub rebasable : (base room : ℕ) → below (run w from to) base ≡ none → to - from ≤ room → Rebasable (run w from to) from base room
+  pub rebasable : (base room : ℕ) → starts-below (run w from to) base ≡ none → to - from ≤ room → Rebasable (run w from to) from base room
   rebasable base room low fits = record {
     starts = λ i l. ltb-false _ _ (none-from (λ (k : ℕ). ltb (start-of (run w from to) k) base) 0 (length (run w from to) / 4) low i (omega arith) (omega arith));
     order = λ i l. rw (cut-word i 1 (omega arith) l, cut-word i 2 (omega arith) l) (cut-sound i l .ordered);

@@ -20,7 +20,7 @@ use Rattle.words.proofs.Outcomes.{never}
 use Rattle.words.proofs.Runs.{run-length}
 use Rattle.part.specs.Part.{part-check, end-index, own-fault, fault, faults-from}
 use Rattle.part.proofs.Faults.{Sound, Passes, passes, sound-own, crosses-none, fault-own, fault-none}
-use Rattle.slicing.specs.Slice.{below, outside, cut-check, rebased, largest-end, sliced, slice-outcome, slice-part}
+use Rattle.slicing.specs.Slice.{starts-below, outside, cut-check, rebased, largest-end, sliced, slice-outcome, slice-part}
 use Rattle.slicing.specs.Cutting.{Cuttable, in-source}
 use Rattle.slicing.proofs.Cut.{cut-word}
 use Rattle.slicing.proofs.Rebasing.{At, rebased-at, rebased-length}
@@ -138,7 +138,7 @@ module _ (w : List ℕ) (types from to base : ℕ) (counts : List ℕ) (ok : par
 -- the whole call, where none of 1, 16 to 23 applies
 module _ (w : List ℕ) (types from to base : ℕ) (c : Cuttable w types from to base) where
   -- no record of the cut starts below the base
-  none-below : below (run w from to) base ≡ none
+  none-below : starts-below (run w from to) base ≡ none
   none-below = none-met (λ i. ltb (start-of (run w from to) i) base) 0 (length (run w from to) / 4) (λ i l m. le-ltb _ _ (high i (omega arith)))
     where
       high : (i : ℕ) → i < length (run w from to) / 4 → base ≤ start-of (run w from to) i

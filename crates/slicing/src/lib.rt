@@ -12,6 +12,7 @@ ghost use Rattle.slicing.specs.Rebasing.{Rebasable, Rebased};
 ghost use Rattle.slicing.specs.Answer.{sliced-outcome};
 use part::Checked;
 use words::Found;
+use words::RECORD_WIDTH;
 
 // What slicing answers.
 pub enum Sliced {
@@ -22,7 +23,7 @@ pub enum Sliced {
 }
 
 // Record i where the test held for it, else what was found behind it.
-fn noted(held: bool, i: usize, behind: Found) -> Found
+fn found_first(held: bool, i: usize, behind: Found) -> Found
     ensures { λ r. ⌜ place-found r ≡ cond held (some i) (place-found behind) ⌝ }
 {
     if held {
@@ -37,20 +38,20 @@ fn check_cut(cut: &[u16], from: usize, to: usize, base: u32) -> Checked
     requires { ⌜ from + length (now cut) ≡ to ⌝ }
     ensures { λ r. ⌜ checked-outcome r ≡ cut-check (now (cut .entry)) from to base ⌝ }
 {
-    let records = cut.len() / 4;
+    let records = cut.len() / RECORD_WIDTH;
     let mut low = Found::Nothing;
     let mut far = Found::Nothing;
     let mut i = records;
     while 0 < i {
         i -= 1;
-        low = noted((cut[i * 4 + 1] as u32) < base, i, low);
-        far = noted(to < words::wide(cut[i * 4 + 3]), i, far);
+        low = found_first((cut[i * RECORD_WIDTH + 1] as u32) < base, i, low);
+        far = found_first(to < words::wide(cut[i * RECORD_WIDTH + 3]), i, far);
     }
     if let Found::At(at) = low {
-        return Checked::Refused(23, from + at * 4);
+        return Checked::Refused(23, from + at * RECORD_WIDTH);
     }
     if let Found::At(at) = far {
-        return Checked::Refused(19, from + at * 4);
+        return Checked::Refused(19, from + at * RECORD_WIDTH);
     }
     Checked::Records(records)
 }
@@ -60,18 +61,18 @@ fn rebase(cut: &[u16], from: u16, base: u16, out: &mut [u16]) -> u16
     requires { ⌜ Rebasable (now cut) from base (length (now out)) ⌝ }
     ensures { λ r. ⌜ Rebased (now (cut .entry)) from base (now (out .entry)) (now (out .exit)) r ⌝ }
 {
-    let records = cut.len() / 4;
+    let records = cut.len() / RECORD_WIDTH;
     let mut largest: u16 = 0;
     let mut i: usize = 0;
     while i < records {
-        let end = cut[i * 4 + 2] - base;
+        let end = cut[i * RECORD_WIDTH + 2] - base;
         words::put_record(
             out,
             i * 4,
-            cut[i * 4],
-            cut[i * 4 + 1] - base,
+            cut[i * RECORD_WIDTH],
+            cut[i * RECORD_WIDTH + 1] - base,
             end,
-            cut[i * 4 + 3] - from,
+            cut[i * RECORD_WIDTH + 3] - from,
         );
         if largest < end {
             largest = end;
@@ -102,10 +103,10 @@ pub fn slice(
     if words.len() < to {
         return Sliced::Refused(21, 0);
     }
-    if from % 4 != 0 {
+    if from % RECORD_WIDTH != 0 {
         return Sliced::Refused(22, 0);
     }
-    if to % 4 != 0 {
+    if to % RECORD_WIDTH != 0 {
         return Sliced::Refused(22, 0);
     }
     let cut = &words[from..to];

@@ -6,7 +6,7 @@ use Rattle.words.specs.Outcome.{accepted, refused}
 use Rattle.words.specs.First.{first-from}
 use Rattle.part.specs.Part.{part-check, faults-from, fault, own-fault, crosses}
 use Rattle.slicing.specs.Slice.{cut-check, rebased, largest-end, sliced, slice-outcome, slice-part}
-use Rattle.records.specs.Forest.{count, behind, line, below, reading}
+use Rattle.records.specs.Forest.{count, behind, line, depth-below, reading}
 use Rattle.records.specs.Parse.{nearest, farther, parse-from, parse}
 use Rattle.records.specs.Check as list
 use Rattle.tree.specs.Trees.{_⊕_, nodes, siblings, kids-of, first-start, last-end}
@@ -49,7 +49,7 @@ Lists =
     × (reading 4 0 (parse P) ≡ 0 ∷ 3 ∷ 0 ∷ 6 ∷ 1 ∷ 1 ∷ 0 ∷ 2 ∷ 1 ∷ 2 ∷ 3 ∷ 5 ∷ [])
 
 lists : Lists
-unfolding list.check list.list-check list.first-level-fault list.range-fault list.or-else list.in-place list.records-check list.record-fault list.fills list.own-fault parse parse-from nearest farther reading line below behind count
+unfolding list.check list.list-check list.list-range-fault list.range-fault list.or-else list.in-place list.records-check list.record-fault list.fills list.own-fault parse parse-from nearest farther reading line depth-below behind count
 lists = (refl, refl, refl, refl, refl, refl)
 
 -- "Slicing the first part 4 to 12, base 0: length 5; 0 to 8: 19 at 0; base 1 from 4: 23 at 4"
@@ -76,7 +76,7 @@ Listings =
     })
 
 listings : Listings
-unfolding trees.nines materialise-call list-call items unless-bad result-room tree-room lines-room handed-in bad-cell cells-of first-child chain chains any-part named top-broken kind-broken id-broken link-broken count-broken place-broken order-broken inside-broken end-broken part-broken stray-broken any-of broken next-named first-named words-end lowest-from top-named part-kept ranges bound earliest still part-check faults-from fault own-fault crosses _⊕_ nodes siblings kids-of within beyond unpack materialise node-line node-below listing lines line below relative absolute packed unless-none kind id-word cells leading following cell-tree decode-from decode tree-cells materialise-cells list-cells
+unfolding trees.nines materialise-call list-call items unless-bad result-room tree-room lines-room handed-in bad-cell cells-of first-child chain chains any-part named top-broken kind-broken id-broken link-broken count-broken place-broken order-broken inside-broken end-broken part-broken stray-broken any-of broken next-named first-named words-end lowest-from top-named part-kept ranges bound earliest still part-check faults-from fault own-fault crosses _⊕_ nodes siblings kids-of within beyond unpack materialise node-line node-below listing lines line depth-below relative absolute packed unless-none kind id-word cells leading following cell-tree decode-from decode tree-cells materialise-cells list-cells
 listings = (refl, refl, refl, refl)
 
 -- The cells of n leaf trees of id 1 and length 1, one after the other from the position s on; the first is cell c.

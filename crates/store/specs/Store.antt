@@ -20,21 +20,57 @@ word n = min n 4294967295
 unfoldable pub likes : Option ℕ → Trees → ℕ
 likes t ts = cond (all-of t ts) (word (suc (total t ts))) 0
 
--- A node's ten words, at the address n: kind, id (of a part: how many words), start, length, first child's address (of a part:
--- its words' address), next sibling's address; of the list from here on, how many cells, packed words and trees, and its
--- balanced size where all have its own type.
+-- how many words a node has
+abbrev pub node-width : ℕ
+node-width = 10
+
+-- The words of the node at the address n: kind, id (of a part: how many words), start, length, first child's address (of a part:
+-- its words' address) and next sibling's address, ...
+abbrev pub node-kind : (w : List ℕ) (n : ℕ) → ℕ
+node-kind w n = getD w n 0
+
+abbrev pub node-id : (w : List ℕ) (n : ℕ) → ℕ
+node-id w n = getD w (n + 1) 0
+
+abbrev pub node-start : (w : List ℕ) (n : ℕ) → ℕ
+node-start w n = getD w (n + 2) 0
+
+abbrev pub node-length : (w : List ℕ) (n : ℕ) → ℕ
+node-length w n = getD w (n + 3) 0
+
+abbrev pub node-first : (w : List ℕ) (n : ℕ) → ℕ
+node-first w n = getD w (n + 4) 0
+
+abbrev pub node-next : (w : List ℕ) (n : ℕ) → ℕ
+node-next w n = getD w (n + 5) 0
+
+-- ... the places of three that tell of the list from the node on how many cells, packed words and trees it has, ...
+abbrev pub cells-place : ℕ
+cells-place = 6
+
+abbrev pub words-place : ℕ
+words-place = 7
+
+abbrev pub trees-place : ℕ
+trees-place = 8
+
+-- ... and its balanced size where all have the node's own type.
+abbrev pub node-like : (w : List ℕ) (n : ℕ) → ℕ
+node-like w n = getD w (n + 9) 0
+
+-- a node at the address n that stands from `base` up to `top`: what its words say of a list
 pub record Node (w : List ℕ) (base top n : ℕ) (kind id start length like : ℕ) (list : Trees) : Type 0 where
   pub live : 0 < n
   pub above : base ≤ n
-  pub below : n + 10 ≤ top
-  pub kind-at : getD w n 0 ≡ kind
-  pub id-at : getD w (n + 1) 0 ≡ id
-  pub start-at : getD w (n + 2) 0 ≡ start
-  pub length-at : getD w (n + 3) 0 ≡ length
-  pub cells-at : getD w (n + 6) 0 ≡ word (nodes list)
-  pub words-at : getD w (n + 7) 0 ≡ word (lib.ListN.length (packed list))
-  pub trees-at : getD w (n + 8) 0 ≡ word (siblings list)
-  pub like-at : getD w (n + 9) 0 ≡ like
+  pub below : n + node-width ≤ top
+  pub kind-at : node-kind w n ≡ kind
+  pub id-at : node-id w n ≡ id
+  pub start-at : node-start w n ≡ start
+  pub length-at : node-length w n ≡ length
+  pub cells-at : getD w (n + cells-place) 0 ≡ word (nodes list)
+  pub words-at : getD w (n + words-place) 0 ≡ word (lib.ListN.length (packed list))
+  pub trees-at : getD w (n + trees-place) 0 ≡ word (siblings list)
+  pub like-at : node-like w n ≡ like
 
 -- the words ws, of 16 bits each, stand from the address a on, at or above `low`
 pub record Staged (w : List ℕ) (low a : ℕ) (ws : List ℕ) : Type 0 where
@@ -49,14 +85,14 @@ Holds w base top low n nil = n ≡ 0
 Holds w base top low n (tree t s l kids rest) =
     record {
       node : Node w base top n (kind t) (id-word t) s l (likes t (tree t s l kids rest)) (tree t s l kids rest);
-      first : Holds w base top low (getD w (n + 4) 0) kids;
-      next : Holds w base top low (getD w (n + 5) 0) rest;
+      first : Holds w base top low (node-first w n) kids;
+      next : Holds w base top low (node-next w n) rest;
     }
 Holds w base top low n (part s l ws rest) =
     record {
       node : Node w base top n 2 (length ws) s l 0 (part s l ws rest);
-      first : Staged w low (getD w (n + 4) 0) ws;
-      next : Holds w base top low (getD w (n + 5) 0) rest;
+      first : Staged w low (node-first w n) ws;
+      next : Holds w base top low (node-next w n) rest;
     }
 
 -- the words from `base` up to `top` and from `low` on are the same
@@ -71,7 +107,7 @@ told w n k = cond (eqb n 0) 0 (getD w (n + k) 0)
 
 -- what a list's node tells of a type: one more than the balanced size where all are trees of it, else 0
 abbrev pub liked : (w : List ℕ) (n kind id : ℕ) → ℕ
-liked w n k i = cond (eqb n 0) 1 (cond (eqb (getD w n 0) k) (cond (eqb (getD w (n + 1) 0) i) (getD w (n + 9) 0) 0) 0)
+liked w n k i = cond (eqb n 0) 1 (cond (eqb (node-kind w n) k) (cond (eqb (node-id w n) i) (node-like w n) 0) 0)
 
 -- the same for a tree of size s before a list
 abbrev pub liked-on : (s b : ℕ) → ℕ
@@ -79,55 +115,55 @@ liked-on s b = cond (eqb b 0) 0 (word (s + b))
 
 -- an address that can be read
 abbrev pub Readable : List ℕ → ℕ → Type 0
-Readable w n = (n ≡ 0 → ⊥) → n + 10 ≤ length w
+Readable w n = (n ≡ 0 → ⊥) → n + node-width ≤ length w
 
 -- what a push leaves: the new node at the old top, all other words as they were, and what holds of the new node
 pub record PushedTree (w w′ : List ℕ) (top k i s l kids next r : ℕ) : Type 0 where
   pub address : r ≡ top
-  pub kept : Same w w′ 0 top (top + 10)
-  pub holds : (base low : ℕ) (t : Option ℕ) (ks rest : Trees) → 0 < base → base ≤ top → top + 10 ≤ low → k ≡ kind t → i ≡ id-word t
+  pub kept : Same w w′ 0 top (top + node-width)
+  pub holds : (base low : ℕ) (t : Option ℕ) (ks rest : Trees) → 0 < base → base ≤ top → top + node-width ≤ low → k ≡ kind t → i ≡ id-word t
       → Holds w base top low kids ks → Holds w base top low next rest
-      → Holds w′ base (top + 10) low r (tree t s l ks rest)
+      → Holds w′ base (top + node-width) low r (tree t s l ks rest)
 
 -- the same of a part whose words stand at `from`
 pub record PushedPart (w w′ : List ℕ) (top s l from count next r : ℕ) : Type 0 where
   pub address : r ≡ top
-  pub kept : Same w w′ 0 top (top + 10)
-  pub holds : (base low : ℕ) (ws : List ℕ) (rest : Trees) → 0 < base → base ≤ top → top + 10 ≤ low → count ≡ length ws
+  pub kept : Same w w′ 0 top (top + node-width)
+  pub holds : (base low : ℕ) (ws : List ℕ) (rest : Trees) → 0 < base → base ≤ top → top + node-width ≤ low → count ≡ length ws
       → Staged w low from ws → Holds w base top low next rest
-      → Holds w′ base (top + 10) low r (part s l ws rest)
+      → Holds w′ base (top + node-width) low r (part s l ws rest)
 
 -- the cell of a tree node, after `cell` others, under a parent that starts at q
 abbrev pub tree-cell : (w : List ℕ) (n q cell : ℕ) → List ℕ
 tree-cell w n q cell =
-    getD w n 0 ∷ getD w (n + 1) 0 ∷ (getD w (n + 2) 0 - q) ∷ getD w (n + 3) 0
-    ∷ cond (eqb (getD w (n + 4) 0) 0) 0 (cell + 2)
-    ∷ told w (getD w (n + 4) 0) 8
-    ∷ cond (eqb (getD w (n + 5) 0) 0) 0 (cell + 2 + told w (getD w (n + 4) 0) 6)
+    node-kind w n ∷ node-id w n ∷ (node-start w n - q) ∷ node-length w n
+    ∷ cond (eqb (node-first w n) 0) 0 (cell + 2)
+    ∷ told w (node-first w n) trees-place
+    ∷ cond (eqb (node-next w n) 0) 0 (cell + 2 + told w (node-first w n) cells-place)
     ∷ []
 
 -- the cell of a part's node, after `cell` others and `word` packed words
 abbrev pub part-cell : (w : List ℕ) (n q cell word : ℕ) → List ℕ
 part-cell w n q cell word =
-    2 ∷ 0 ∷ (getD w (n + 2) 0 - q) ∷ getD w (n + 3) 0 ∷ word ∷ getD w (n + 1) 0
-    ∷ cond (eqb (getD w (n + 5) 0) 0) 0 (cell + 2)
+    2 ∷ 0 ∷ (node-start w n - q) ∷ node-length w n ∷ word ∷ node-id w n
+    ∷ cond (eqb (node-next w n) 0) 0 (cell + 2)
     ∷ []
 
 -- a part's node at n that can be written out: its cell and its words fit
 pub record PartReady (w : List ℕ) (n cell room word wide : ℕ) : Type 0 where
-  pub inside : n + 10 ≤ length w
-  pub cell-fits : cell * 7 + 7 ≤ room
+  pub inside : n + node-width ≤ length w
+  pub cell-fits : cell * cell-width + cell-width ≤ room
   pub few : cell + 2 < 4294967296
   pub narrow : word < 4294967296
-  pub held : getD w (n + 4) 0 + getD w (n + 1) 0 ≤ length w
-  pub words-fit : word + getD w (n + 1) 0 ≤ wide
-  pub small : (k : ℕ) → k < getD w (n + 1) 0 → getD w (getD w (n + 4) 0 + k) 0 < 65536
+  pub held : node-first w n + node-id w n ≤ length w
+  pub words-fit : word + node-id w n ≤ wide
+  pub small : (k : ℕ) → k < node-id w n → getD w (node-first w n + k) 0 < 65536
 
 -- the part's cell and its words are written, r of them
 pub record PartWritten (w : List ℕ) (n q cell word : ℕ) (out out′ words words′ : List ℕ) (r : ℕ) : Type 0 where
-  pub count : r ≡ getD w (n + 1) 0
-  pub cell-out : out′ ≡ put out (cell * 7) (part-cell w n q cell word)
-  pub words-out : words′ ≡ paste words word (drop (getD w (n + 4) 0) w) (getD w (n + 1) 0)
+  pub count : r ≡ node-id w n
+  pub cell-out : out′ ≡ put out (cell * cell-width) (part-cell w n q cell word)
+  pub words-out : words′ ≡ paste words word (drop (node-first w n) w) (node-id w n)
 
 -- a list of trees that can be written out: there is room for its cells, its packed words and the pending lists
 pub record Writable (w : List ℕ) (top root room wide : ℕ) : Type 0 where
@@ -160,7 +196,7 @@ pub record TopReady (w : List ℕ) (top kids room wide : ℕ) : Type 0 where
   pub trees : Trees
   pub live : 0 < base
   pub above : base ≤ top
-  pub free : top + 10 + 2 * suc (nodes trees) ≤ low
+  pub free : top + node-width + 2 * suc (nodes trees) ≤ low
   pub inside : low ≤ length w
   pub fits : low ≤ 4294967295
   pub holds : Holds w base top low kids trees

@@ -8,11 +8,36 @@ ghost use lib.ListN.{length, getD, take, drop};
 ghost use lib.Seq.{paste};
 ghost use lib.Dec.{eqb};
 ghost use mathlib.Core.Bool.{cond};
+ghost use Rattle.tree.specs.Cells.{cell-width};
 ghost use Rattle.words.specs.Words.{put};
-ghost use Rattle.store.specs.Store.{told, liked, liked-on, word, Readable, PushedTree, PushedPart, StagedMore, tree-cell, part-cell, PartReady, PartWritten, Writable, Wrote, TopReady, TopWrote};
+ghost use Rattle.store.specs.Store.{told, liked, liked-on, word, Readable, PushedTree, PushedPart, StagedMore, tree-cell, part-cell, PartReady, PartWritten, Writable, Wrote, TopReady, TopWrote, node-width, node-first, cells-place};
 use tree::CELL_WIDTH;
 
-// Ten words from an address on.
+// How many words a node has.
+pub const NODE_WIDTH: u32 = 10;
+
+// The places of a node's words.
+pub const NODE_KIND: usize = 0;
+
+pub const NODE_ID: usize = 1;
+
+pub const NODE_START: usize = 2;
+
+pub const NODE_LENGTH: usize = 3;
+
+pub const NODE_FIRST: usize = 4;
+
+pub const NODE_NEXT: usize = 5;
+
+pub const NODE_CELLS: usize = 6;
+
+pub const NODE_WORDS: usize = 7;
+
+pub const NODE_TREES: usize = 8;
+
+pub const NODE_LIKE: usize = 9;
+
+// A node's words from an address on.
 fn put_node(
     work: &mut [u32],
     at: usize,
@@ -27,25 +52,25 @@ fn put_node(
     trees: u32,
     like: u32,
 )
-    requires { ⌜ at + 10 ≤ lib.ListN.length (now work) ⌝ }
+    requires { ⌜ at + node-width ≤ lib.ListN.length (now work) ⌝ }
     ensures { λ _. ⌜ now (work .exit) ≡ put (now (work .entry)) at (kind ∷ id ∷ start ∷ length ∷ first ∷ next ∷ cells ∷ words ∷ trees ∷ like ∷ []) ⌝ }
 {
     work[at] = kind;
-    work[at + 1] = id;
-    work[at + 2] = start;
-    work[at + 3] = length;
-    work[at + 4] = first;
-    work[at + 5] = next;
-    work[at + 6] = cells;
-    work[at + 7] = words;
-    work[at + 8] = trees;
-    work[at + 9] = like;
+    work[at + NODE_ID] = id;
+    work[at + NODE_START] = start;
+    work[at + NODE_LENGTH] = length;
+    work[at + NODE_FIRST] = first;
+    work[at + NODE_NEXT] = next;
+    work[at + NODE_CELLS] = cells;
+    work[at + NODE_WORDS] = words;
+    work[at + NODE_TREES] = trees;
+    work[at + NODE_LIKE] = like;
 }
 
 // Word k of a node, 0 where there is none.
 pub fn tell(work: &[u32], node: u32, k: usize) -> u32
     requires { ⌜ Readable (now work) node ⌝ }
-    requires { ⌜ k < 10 ⌝ }
+    requires { ⌜ k < node-width ⌝ }
     ensures { λ r. ⌜ r ≡ told (now (work .entry)) node k ⌝ }
 {
     if node == 0 {
@@ -74,8 +99,8 @@ pub fn like(work: &[u32], node: u32, kind: u32, id: u32) -> u32
     }
     let n = words::index(node);
     if work[n] == kind {
-        if work[n + 1] == id {
-            return work[n + 9];
+        if work[n + NODE_ID] == id {
+            return work[n + NODE_LIKE];
         }
         return 0;
     }
@@ -113,15 +138,15 @@ pub fn push_tree(
     kids: u32,
     next: u32,
 ) -> u32
-    requires { ⌜ top + 10 ≤ lib.ListN.length (now work) ⌝ }
+    requires { ⌜ top + node-width ≤ lib.ListN.length (now work) ⌝ }
     requires { ⌜ Readable (now work) kids ⌝ }
     requires { ⌜ Readable (now work) next ⌝ }
     ensures { λ r. ⌜ PushedTree (now (work .entry)) (now (work .exit)) top kind id start length kids next r ⌝ }
 {
-    let cells = sum(tell(work, kids, 6), tell(work, next, 6));
+    let cells = sum(tell(work, kids, NODE_CELLS), tell(work, next, NODE_CELLS));
     let cells = sum(cells, 1);
-    let words = sum(tell(work, kids, 7), tell(work, next, 7));
-    let trees = sum(tell(work, next, 8), 1);
+    let words = sum(tell(work, kids, NODE_WORDS), tell(work, next, NODE_WORDS));
+    let trees = sum(tell(work, next, NODE_TREES), 1);
     let size = at_least_one(like(work, kids, kind, id));
     let own = like_on(size, like(work, next, kind, id));
     put_node(
@@ -151,13 +176,13 @@ pub fn push_part(
     count: u32,
     next: u32,
 ) -> u32
-    requires { ⌜ top + 10 ≤ lib.ListN.length (now work) ⌝ }
+    requires { ⌜ top + node-width ≤ lib.ListN.length (now work) ⌝ }
     requires { ⌜ Readable (now work) next ⌝ }
     ensures { λ r. ⌜ PushedPart (now (work .entry)) (now (work .exit)) top start length from count next r ⌝ }
 {
-    let cells = sum(tell(work, next, 6), 1);
-    let words = sum(count, tell(work, next, 7));
-    let trees = sum(tell(work, next, 8), 1);
+    let cells = sum(tell(work, next, NODE_CELLS), 1);
+    let words = sum(count, tell(work, next, NODE_WORDS));
+    let trees = sum(tell(work, next, NODE_TREES), 1);
     put_node(
         work,
         words::index(top),
@@ -209,7 +234,7 @@ fn put_cell(
     count: u32,
     next: u32,
 )
-    requires { ⌜ at + 7 ≤ lib.ListN.length (now out) ⌝ }
+    requires { ⌜ at + cell-width ≤ lib.ListN.length (now out) ⌝ }
     ensures { λ _. ⌜ now (out .exit) ≡ put (now (out .entry)) at (kind ∷ id ∷ start ∷ length ∷ first ∷ count ∷ next ∷ []) ⌝ }
 {
     out[at] = kind;
@@ -237,18 +262,18 @@ fn copy_words(work: &[u32], from: usize, count: usize, out: &mut [u16], at: usiz
 
 // The cell of the tree at n, after `cell` others.
 fn write_tree(work: &[u32], n: usize, from: u32, out: &mut [u32], cell: usize)
-    requires { ⌜ n + 10 ≤ length (now work) ⌝ }
-    requires { ⌜ Readable (now work) (getD (now work) (n + 4) 0) ⌝ }
-    requires { ⌜ cell * 7 + 7 ≤ length (now out) ⌝ }
-    requires { ⌜ cell + 2 + told (now work) (getD (now work) (n + 4) 0) 6 < 4294967296 ⌝ }
-    ensures { λ _. ⌜ now (out .exit) ≡ put (now (out .entry)) (cell * 7) (tree-cell (now (work .entry)) n from cell) ⌝ }
+    requires { ⌜ n + node-width ≤ length (now work) ⌝ }
+    requires { ⌜ Readable (now work) (node-first (now work) n) ⌝ }
+    requires { ⌜ cell * cell-width + cell-width ≤ length (now out) ⌝ }
+    requires { ⌜ cell + 2 + told (now work) (node-first (now work) n) cells-place < 4294967296 ⌝ }
+    ensures { λ _. ⌜ now (out .exit) ≡ put (now (out .entry)) (cell * cell-width) (tree-cell (now (work .entry)) n from cell) ⌝ }
 {
-    let kids = work[n + 4];
-    let below = tell(work, kids, 6);
+    let kids = work[n + NODE_FIRST];
+    let below = tell(work, kids, NODE_CELLS);
     let first = link(kids, cell + 2);
-    let count = tell(work, kids, 8);
-    let next = link(work[n + 5], cell + 2 + words::index(below));
-    let start = words::less(work[n + 2], from);
+    let count = tell(work, kids, NODE_TREES);
+    let next = link(work[n + NODE_NEXT], cell + 2 + words::index(below));
+    let start = words::less(work[n + NODE_START], from);
     put_cell(
         out,
         cell * CELL_WIDTH,
@@ -275,10 +300,10 @@ fn write_part(
     requires { ⌜ PartReady (now work) n cell (length (now out)) word (length (now words)) ⌝ }
     ensures { λ r. ⌜ PartWritten (now (work .entry)) n from cell word (now (out .entry)) (now (out .exit)) (now (words .entry)) (now (words .exit)) r ⌝ }
 {
-    let count = words::index(work[n + 1]);
-    copy_words(work, words::index(work[n + 4]), count, words, word);
-    let next = link(work[n + 5], cell + 2);
-    let start = words::less(work[n + 2], from);
+    let count = words::index(work[n + NODE_ID]);
+    copy_words(work, words::index(work[n + NODE_FIRST]), count, words, word);
+    let next = link(work[n + NODE_NEXT], cell + 2);
+    let start = words::less(work[n + NODE_START], from);
     put_cell(
         out,
         cell * CELL_WIDTH,
@@ -331,7 +356,7 @@ pub fn write_cells(
             continue;
         }
         let n = words::index(at);
-        let next = work[n + 5];
+        let next = work[n + NODE_NEXT];
         if work[n] == 2 {
             let count = write_part(work, n, from, out, cell, words, word);
             word += count;
@@ -340,8 +365,8 @@ pub fn write_cells(
             continue;
         }
         write_tree(work, n, from, out, cell);
-        at = work[n + 4];
-        let q = work[n + 2];
+        at = work[n + NODE_FIRST];
+        let q = work[n + NODE_START];
         put_two(work, sp, next, from);
         from = q;
         sp += 2;
@@ -364,5 +389,5 @@ pub fn write_top(
     ensures { λ _. ⌜ TopWrote (now (work .entry)) top id start length kids (now (out .entry)) (now (out .exit)) (now (words .entry)) (now (words .exit)) ⌝ }
 {
     let root = push_tree(work, top, 1, id, start, length, kids, 0);
-    write_cells(work, top + 10, root, start, out, words);
+    write_cells(work, top + NODE_WIDTH, root, start, out, words);
 }

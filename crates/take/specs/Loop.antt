@@ -11,7 +11,7 @@ use Rattle.records.specs.Parse.{parse}
 use Rattle.tree.specs.Items.{Items, items, repeats}
 use Rattle.tree.specs.Groups.{Gathered, fresh}
 use Rattle.tree.specs.Build.{walk, first-level}
-use Rattle.store.specs.Store.{Holds}
+use Rattle.store.specs.Store.{Holds, node-width}
 use Rattle.scan.specs.declared.Memo.{Memo}
 use Rattle.take.specs.Going.{Going}
 use Rattle.take.specs.Starting.{Starts}
@@ -32,7 +32,7 @@ pub record WithPart (s : State) (x : BuiltNode) (r : State) : Type 0 where
     depth = s .depth;
     low = x .low;
     tree = s .tree;
-    children = record { top = s .children .top + 10; groups = s .children .groups; loose = x .node; edge = s .children .edge };
+    children = record { top = s .children .top + node-width; groups = s .children .groups; loose = x .node; edge = s .children .edge };
     memo = m;
   }
 

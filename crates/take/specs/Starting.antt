@@ -8,7 +8,7 @@ use lib.ListN.{length}
 use Rattle.words.specs.Words.{id-of, start-of, end-of, last-of}
 use Rattle.tree.specs.Items.{same}
 use Rattle.tree.specs.Groups.{Gathered}
-use Rattle.store.specs.Store.{Readable, PushedPart}
+use Rattle.store.specs.Store.{Readable, PushedPart, node-width}
 use Rattle.pack.specs.declared.Part.{Part}
 use Rattle.scan.specs.declared.Memo.{Memo}
 use Rattle.take.specs.Going.{own-under, Going}
@@ -23,7 +23,7 @@ use Rattle.take.specs.declared.State.{State}
 pub record PartReady (l : List ℕ) (top low loose from : ℕ) : Type 0 where
   pub below : from ≤ low
   pub small : low ≤ 4294967295
-  pub room : top + 10 ≤ length l
+  pub room : top + node-width ≤ length l
   pub readable : Readable l loose
 
 pub record PartBuilt (l l′ : List ℕ) (s : State) (x : Part) (r : BuiltNode) : Type 0 where
@@ -56,7 +56,7 @@ Started F b own w l l′ s q (Built x) = record {
     depth = s .depth;
     low = x .low;
     tree = s .tree;
-    children = record { top = s .children .top + 10; groups = s .children .groups; loose = x .node; edge = s .children .edge };
+    children = record { top = s .children .top + node-width; groups = s .children .groups; loose = x .node; edge = s .children .edge };
     memo = m;
   });
 }

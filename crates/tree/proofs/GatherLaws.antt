@@ -7,7 +7,7 @@ use mathlib.Core.Option.{some}
 use Prim.Native.Nat.{ℕ, _+_, _-_, _≤_}
 use native.Mathlib.Omega.{arith}
 use lib.Dec.{T, ltb, leb}
-use Rattle.records.specs.Forest.{line, below}
+use Rattle.records.specs.Forest.{line, depth-below}
 use Rattle.tree.specs.Trees.{Trees, nil, tree, part, _⊕_, is-nil}
 use Rattle.tree.specs.Listing.{node-line, node-below}
 use Rattle.tree.specs.Balance.{balance}
@@ -57,18 +57,18 @@ module _ (F d : ℕ) where
       go true e = rw (view-is-nil (g .loose) e)
       go false e = view-hidden F d (some i) s (g .edge - s) (g .loose) (g .groups) h
 
-  pub view-finish : (i s e : ℕ) (g : Gathered) → s ≤ e → view F d (finish F i s e g) ≡ line F d i s e ++ gview F (below F d i) g
+  pub view-finish : (i s e : ℕ) (g : Gathered) → s ≤ e → view F d (finish F i s e g) ≡ line F d i s e ++ gview F (depth-below F d i) g
   unfolding finish gview node-line node-below
   view-finish i s e g h = go (ltb i F) (is-nil (g .groups)) refl
     where
-      plain : view F d (tree (some i) s (e - s) (g .loose ⊕ g .groups) nil) ≡ line F d i s e ++ gview F (below F d i) g
+      plain : view F d (tree (some i) s (e - s) (g .loose ⊕ g .groups) nil) ≡ line F d i s e ++ gview F (depth-below F d i) g
       plain =
           let end : s + (e - s) ≡ e = omega arith in
           rw (view-tree F d (some i) s (e - s) (g .loose ⊕ g .groups) nil, end, view-⊕, view-nil) (append-nil _)
 
       go : (x y : Bool) → ltb i F ≡ x
           → view F d (elim (x || y) [ true ↦ tree (some i) s (e - s) (g .loose ⊕ g .groups) nil | false ↦ balance (some i) (some i) s (e - s) ((rest-closed i s g) .groups) ])
-          ≡ line F d i s e ++ gview F (below F d i) g
+          ≡ line F d i s e ++ gview F (depth-below F d i) g
       go true y x = plain
       go false true x = plain
       go false false x =

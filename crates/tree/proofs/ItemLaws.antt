@@ -8,7 +8,7 @@ use Prim.Native.Nat.{ℕ, zero, suc, _*_, _≤_, _<_, max}
 use native.Mathlib.Omega.{arith}
 use native.Mathlib.Nat.{le-refl}
 use lib.Dec.{T as So, ltb, leb, leb→le, eqb→eq}
-use Rattle.records.specs.Forest.{Forest, empty, add, count, line, below, reading, levels, Nested}
+use Rattle.records.specs.Forest.{Forest, empty, add, count, line, depth-below, reading, levels, Nested}
 use Rattle.tree.specs.Items.{Items, mark, span, same, repeats, items, records, first, leftmost}
 use Rattle.tree.specs.Flat.{Record, flattened}
 use Rattle.tree.proofs.Reading.{reads, after}
@@ -158,17 +158,17 @@ module _ (F : ℕ) where
   reads-items own o d empty acc = sym (append-nil _)
   reads-items own o d (add before i s e kids) acc =
       go (same own i) refl (reads-items own o d before acc) (reads-items own o d kids (items F own before acc))
-      (reads-items (repeats F i) (own-repeats F i) (below F d i) kids Items.nil)
+      (reads-items (repeats F i) (own-repeats F i) (depth-below F d i) kids Items.nil)
     where
       go : (x : Bool) → same own i ≡ x
           → reads F d (items F own before acc) ≡ reads F d acc ++ reading F d before
           → reads F d (items F own kids (items F own before acc)) ≡ reads F d (items F own before acc) ++ reading F d kids
-          → reads F (below F d i) (items F (repeats F i) kids Items.nil) ≡ reading F (below F d i) kids
+          → reads F (depth-below F d i) (items F (repeats F i) kids Items.nil) ≡ reading F (depth-below F d i) kids
           → reads F d (elim x [
             | true ↦ mark i s e (4 * suc (count kids)) (items F own kids (items F own before acc))
             | false ↦ span i s e (items F (repeats F i) kids Items.nil) (items F own before acc)
           ])
-          ≡ reads F d acc ++ (reading F d before ++ (line F d i s e ++ reading F (below F d i) kids))
+          ≡ reads F d acc ++ (reading F d before ++ (line F d i s e ++ reading F (depth-below F d i) kids))
       go true h b m k = rw (m, b, line-repeat F d i s e (o i h), below-repeat F d i (o i h), append-assoc)
       go false h b m k = rw (b, k, append-assoc)
 

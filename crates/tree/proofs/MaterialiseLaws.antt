@@ -11,7 +11,7 @@ use native.Mathlib.Nat.{add-zero, le-refl}
 use borrow.Author.Tests.{le-leb, lt-leb}
 use lib.Dec.{ltb}
 use lib.ListN.{length}
-use Rattle.records.specs.Forest.{line, below}
+use Rattle.records.specs.Forest.{line, depth-below}
 use Rattle.tree.specs.Trees.{Trees, nil, tree, part, _⊕_, nodes}
 use Rattle.tree.specs.Materialise.{within, beyond, unpack, materialise}
 use Rattle.tree.specs.Listing.{node-line, node-below, listing}
@@ -113,8 +113,8 @@ module _ (F p d : ℕ) where
       ap (λ (now : List ℕ). line F (d + length now) i (p + s) (p + e) ++ part-lines F p d (off + 4) (cond (ltb i F) (x ∷ now) now) ws) h
 
   -- an ordinary record holds what stands in it
-  depth-inside : (i n : ℕ) (es : List ℕ) → d + length (cond (ltb i F) (n ∷ es) es) ≡ below F (d + length es) i
-  unfolding below
+  depth-inside : (i n : ℕ) (es : List ℕ) → d + length (cond (ltb i F) (n ∷ es) es) ≡ depth-below F (d + length es) i
+  unfolding depth-below
   depth-inside i n es = go (ltb i F)
     where
       go : (x : Bool) → d + length (cond x (n ∷ es) es) ≡ elim x [ true ↦ suc (d + length es) | false ↦ d + length es ]

@@ -8,7 +8,7 @@ use Prim.Native.Nat.{ℕ, _+_, _-_, _*_, _/_, _≤_}
 use native.Mathlib.Omega.{arith}
 use native.Mathlib.Nat.{add-zero}
 use lib.Dec.{ltb}
-use Rattle.records.specs.Forest.{line, below}
+use Rattle.records.specs.Forest.{line, depth-below}
 use Rattle.tree.specs.Trees.{Trees, nil, tree, part, _⊕_, nodes}
 use Rattle.tree.specs.Materialise.{within, beyond, unpack}
 use Rattle.tree.specs.Listing.{node-line, node-below, listing}
@@ -112,12 +112,12 @@ pub line-repeat : (F d i s e : ℕ) → ltb i F ≡ false → line F d i s e ≡
 unfolding line
 line-repeat F d i s e h = rw (h, line)
 
-pub below-repeat : (F d i : ℕ) → ltb i F ≡ false → below F d i ≡ d
-unfolding below
-below-repeat F d i h = rw (h, below)
+pub below-repeat : (F d i : ℕ) → ltb i F ≡ false → depth-below F d i ≡ d
+unfolding depth-below
+below-repeat F d i h = rw (h, depth-below)
 
 listing-grown : (F d i s l : ℕ) (ts : Trees) (c : Bool) → ltb i F ≡ c
-    → listing F d (grown F i s l ts) ≡ line F d i s (s + l) ++ listing F (below F d i) ts
+    → listing F d (grown F i s l ts) ≡ line F d i s (s + l) ++ listing F (depth-below F d i) ts
 unfolding grown listing node-line node-below
 listing-grown F d i s l ts true h = rw (h, grown) (append-nil _)
 listing-grown F d i s l ts false h = rw (h, grown, line-repeat F d i s (s + l) h, below-repeat F d i h)
@@ -129,7 +129,7 @@ listing-spliced F p d (mark i s e n rest) h = listing-spliced F p d rest h
 listing-spliced F p d (span i s e kids rest) h =
     let start : p + (s - p) ≡ s = omega arith in
     let end : s + ((e - p) - (s - p)) ≡ e = omega arith in
-    rw (listing-⊕, listing-spliced F p d rest (h .3), listing-grown F d i (p + (s - p)) ((e - p) - (s - p)) (spliced F p kids) (ltb i F) refl, start, end, listing-spliced F p (below F d i) kids (h .2))
+    rw (listing-⊕, listing-spliced F p d rest (h .3), listing-grown F d i (p + (s - p)) ((e - p) - (s - p)) (spliced F p kids) (ltb i F) refl, start, end, listing-spliced F p (depth-below F d i) kids (h .2))
 
 -- a packed run read back
 pub unpack-run : (F p : ℕ) (its : Items) → unpack p 0 (pack F p 0 its) ≡ spliced F p its

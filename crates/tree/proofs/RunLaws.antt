@@ -11,7 +11,7 @@ use lib.Dec.{ltb}
 use lib.ListN.{length, length-append}
 use Rattle.words.specs.Outcome.{accepted}
 use Rattle.words.specs.Words.{front}
-use Rattle.records.specs.Forest.{Forest, empty, add, count, behind, line, below, reading}
+use Rattle.records.specs.Forest.{Forest, empty, add, count, behind, line, depth-below, reading}
 use Rattle.records.specs.Parse.{parse}
 use Rattle.tree.specs.Trees.{nodes}
 use Rattle.tree.specs.Build.{build}
@@ -39,14 +39,14 @@ unfolding reading count
 length-reading F d empty = le-refl 0
 length-reading F d (add before i s e kids) =
     let own = line F d i s e in
-    let inside = reading F (below F d i) kids in
+    let inside = reading F (depth-below F d i) kids in
     omega (
       arith,
       length-append (reading F d before) (own ++ inside),
       length-append own inside,
       length-line F d i s e,
       length-reading F d before,
-      length-reading F (below F d i) kids,
+      length-reading F (depth-below F d i) kids,
     )
 
 module _ (F S : ℕ) (fits : S ≤ 4294967295) (r : Run F S) where

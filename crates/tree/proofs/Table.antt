@@ -7,9 +7,9 @@ use mathlib.Core.Option.{none, some}
 use Prim.Native.Nat.{ℕ, zero, suc, _+_}
 use lib.ListN.{getD}
 use Rattle.words.specs.Outcome.{accepted, refused, Result}
-use Rattle.records.specs.Forest.{count, behind, line, below, reading}
+use Rattle.records.specs.Forest.{count, behind, line, depth-below, reading}
 use Rattle.records.specs.Parse.{nearest, farther, parse-from, parse}
-use Rattle.records.specs.Check.{own-fault, fills, record-fault, records-check, in-place, or-else, range-fault, first-level-fault, list-check, check}
+use Rattle.records.specs.Check.{own-fault, fills, record-fault, records-check, in-place, or-else, range-fault, list-range-fault, list-check, check}
 use Rattle.tree.specs.Trees.{Trees, nil, tree, _⊕_, nodes, siblings, is-nil, kids-of, first-start, last-end}
 use Rattle.tree.specs.Items.{repeats, same, items, records, first, leftmost}
 use Rattle.tree.specs.Pack.{width, words, stopped, early, scan, long, packs, run-from, entry, pack, run-part}
@@ -104,7 +104,7 @@ Builds =
     × (build-call 4 4 1024 0 0 none 96 [] (nines 7) [] ≡ record { outcome = accepted (1 ∷ 0 ∷ []); outputs = (1 ∷ 0 ∷ 0 ∷ 0 ∷ 0 ∷ 0 ∷ 0 ∷ []) ∷ [] ∷ [] })
 
 pub builds : Builds
-unfolding nines count behind nearest farther parse-from parse own-fault fills record-fault records-check in-place or-else range-fault first-level-fault list-check check _⊕_ nodes siblings is-nil kids-of first-start last-end repeats same items records first leftmost width words stopped early scan long packs run-from entry pack run-part same-type all-of total share grows groups-from groups lone is-tree joined placed each divide balance fresh gather close pass rest-closed finish flattened flat-words held-end flat-part hold limit full ends too-deep flat walk first-level build relative packed unless-none kind id-word cells tree-cells written build-cells room build-call
+unfolding nines count behind nearest farther parse-from parse own-fault fills record-fault records-check in-place or-else range-fault list-range-fault list-check check _⊕_ nodes siblings is-nil kids-of first-start last-end repeats same items records first leftmost width words stopped early scan long packs run-from entry pack run-part same-type all-of total share grows groups-from groups lone is-tree joined placed each divide balance fresh gather close pass rest-closed finish flattened flat-words held-end flat-part hold limit full ends too-deep flat walk first-level build relative packed unless-none kind id-word cells tree-cells written build-cells room build-call
 builds = (refl, refl, refl, refl, refl, refl, refl)
 
 -- what materialising and listing write of each build of P: its ordinary reading
@@ -116,7 +116,7 @@ Listings =
     × (reading 4 0 (parse P) ≡ lines-P)
 
 pub listings : Listings
-unfolding reading line below count nearest farther parse-from parse _⊕_ nodes siblings kids-of within beyond unpack materialise node-line node-below listing lines relative absolute packed unless-none kind id-word cells tree-cells leading following cell-tree decode-from decode materialise-cells list-cells
+unfolding reading line depth-below count nearest farther parse-from parse _⊕_ nodes siblings kids-of within beyond unpack materialise node-line node-below listing lines relative absolute packed unless-none kind id-word cells tree-cells leading following cell-tree decode-from decode materialise-cells list-cells
 listings = (refl, refl, refl, refl)
 
 -- ten leaf trees balance to ten children, eleven to six

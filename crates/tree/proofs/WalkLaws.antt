@@ -9,7 +9,7 @@ use native.Mathlib.Decide.{decLe}
 use native.Mathlib.Omega.{arith}
 use native.Mathlib.Nat.{le-refl}
 use borrow.Author.Tests.{le-ltb}
-use Rattle.records.specs.Forest.{line, below}
+use Rattle.records.specs.Forest.{line, depth-below}
 use Rattle.tree.specs.Trees.{part, _⊕_}
 use Rattle.tree.specs.Items.{Items, mark, span, repeats, first, leftmost}
 use Rattle.tree.specs.Pack.{run-from, pack, run-part}
@@ -37,7 +37,7 @@ module _ (F T b : ℕ) where
   -- a run of items that starts with a span, as a part
   gview-packed : (d i s e k lo hi : ℕ) (kids rest : Items) (g : Gathered) → Fits F T lo hi (span i s e kids rest)
       → gview F d (gather (run-part F i s e kids (first k rest)) g)
-      ≡ (reads F d (first k rest) ++ (line F d i s e ++ reads F (below F d i) kids)) ++ gview F d g
+      ≡ (reads F d (first k rest) ++ (line F d i s e ++ reads F (depth-below F d i) kids)) ++ gview F d g
   unfolding reads run-part
   gview-packed d i s e k lo hi kids rest g f =
       let p = leftmost s (first k rest) in
@@ -48,7 +48,7 @@ module _ (F T b : ℕ) where
       (λ ts. view-part F d p (e - p) (pack F p 0 run) ts ∙ ap (λ ls. ls ++ view F d ts) (listing-pack F p d run from))
 
   -- a tree
-  gview-tree : (d i s e : ℕ) (inner g : Gathered) (ls : List ℕ) → s ≤ e → gview F (below F d i) inner ≡ ls
+  gview-tree : (d i s e : ℕ) (inner g : Gathered) (ls : List ℕ) → s ≤ e → gview F (depth-below F d i) inner ≡ ls
       → gview F d (gather (λ ts. finish F i s e inner ⊕ ts) g) ≡ (line F d i s e ++ ls) ++ gview F d g
   gview-tree d i s e inner g ls h q =
       gview-gather F d (λ ts. finish F i s e inner ⊕ ts) g (line F d i s e ++ ls)
@@ -74,23 +74,23 @@ module _ (F T b : ℕ) where
   gview-walk (span i s e kids rest) lo hi f dep h d (suc k) own g = gview-walk rest lo s (f .rest) dep (omega arith) d k own g
   gview-walk (span i s e kids rest) lo hi f dep h d zero own g =
       go (run-from F b own i s e kids rest) (λ k g′. gview-walk rest lo s (f .rest) dep (omega arith) d k own g′)
-      (inside (too-deep dep) refl (gview-walk kids s e (f .inner) (suc dep) (omega arith) (below F d i) 0 (repeats F i) (fresh e)))
+      (inside (too-deep dep) refl (gview-walk kids s e (f .inner) (suc dep) (omega arith) (depth-below F d i) 0 (repeats F i) (fresh e)))
     where
       inner : Bool → Gathered
       inner x = elim x [ true ↦ flat b (repeats F i) (flattened kids []) false [] 0 (fresh e) | false ↦ walk F b kids (suc dep) zero (repeats F i) (fresh e) ]
 
       inside : (x : Bool) → too-deep dep ≡ x
-          → gview F (below F d i) (walk F b kids (suc dep) zero (repeats F i) (fresh e)) ≡ reads F (below F d i) kids ++ gview F (below F d i) (fresh e)
-          → gview F (below F d i) (inner x) ≡ reads F (below F d i) kids
-      inside true x ih = gview-leaves (below F d i) i e s e kids (f .inner) (omega (arith, deep dep x))
-      inside false x ih = ih ∙ rw gview-fresh (append-nil (reads F (below F d i) kids))
+          → gview F (depth-below F d i) (walk F b kids (suc dep) zero (repeats F i) (fresh e)) ≡ reads F (depth-below F d i) kids ++ gview F (depth-below F d i) (fresh e)
+          → gview F (depth-below F d i) (inner x) ≡ reads F (depth-below F d i) kids
+      inside true x ih = gview-leaves (depth-below F d i) i e s e kids (f .inner) (omega (arith, deep dep x))
+      inside false x ih = ih ∙ rw gview-fresh (append-nil (reads F (depth-below F d i) kids))
 
       go : (o : Option ℕ)
           → ((k : ℕ) (g′ : Gathered) → gview F d (walk F b rest dep k own g′) ≡ reads F d (after k rest) ++ gview F d g′)
-          → gview F (below F d i) (inner (too-deep dep)) ≡ reads F (below F d i) kids
+          → gview F (depth-below F d i) (inner (too-deep dep)) ≡ reads F (depth-below F d i) kids
           → gview F d (elim o [
             | some k ↦ walk F b rest dep k own (gather (run-part F i s e kids (first k rest)) g)
             | none ↦ walk F b rest dep zero own (gather (λ ts. finish F i s e (inner (too-deep dep)) ⊕ ts) g)
-          ]) ≡ (reads F d rest ++ (line F d i s e ++ reads F (below F d i) kids)) ++ gview F d g
+          ]) ≡ (reads F d rest ++ (line F d i s e ++ reads F (depth-below F d i) kids)) ++ gview F d g
       go (some k) ih q = ih k _ ∙ rw (gview-packed d i s e k lo hi kids rest g f, reads-split F k d rest) (simp append-assoc)
-      go none ih q = ih zero _ ∙ rw (gview-tree d i s e (inner (too-deep dep)) g (reads F (below F d i) kids) (f .ordered) q) (simp append-assoc)
+      go none ih q = ih zero _ ∙ rw (gview-tree d i s e (inner (too-deep dep)) g (reads F (depth-below F d i) kids) (f .ordered) q) (simp append-assoc)

@@ -2,7 +2,7 @@
 use mathlib.Core.Bool.{true, false}
 use mathlib.Core.List.{List, [], _∷_, _++_}
 use mathlib.Core.Option.{Option, none, some}
-use Prim.Native.Nat.{ℕ, zero, suc, _+_, _-_, _/_}
+use Prim.Native.Nat.{ℕ, zero, suc, _+_, _-_, _*_, _/_}
 use lib.Dec.{eqb}
 use lib.ListN.{length, getD, take, drop}
 use Rattle.tree.specs.Trees.{Trees, nil, tree, part, nodes, siblings}
@@ -10,6 +10,47 @@ use Rattle.tree.specs.Trees.{Trees, nil, tree, part, nodes, siblings}
 -- how many words a cell has: "Cells number from 1 in preorder, seven words each"
 abbrev pub cell-width : ℕ
 cell-width = 7
+
+-- the places of a cell's words behind its kind: "kind, id, position from the parent's start, length, first, count, next"
+abbrev pub id-place : ℕ
+id-place = 1
+
+abbrev pub position-place : ℕ
+position-place = 2
+
+abbrev pub length-place : ℕ
+length-place = 3
+
+abbrev pub first-place : ℕ
+first-place = 4
+
+abbrev pub count-place : ℕ
+count-place = 5
+
+abbrev pub next-place : ℕ
+next-place = 6
+
+-- the words of cell i, counted from 0
+abbrev pub cell-kind : (cs : List ℕ) (i : ℕ) → ℕ
+cell-kind cs i = getD cs (i * cell-width) 0
+
+abbrev pub cell-id : (cs : List ℕ) (i : ℕ) → ℕ
+cell-id cs i = getD cs (i * cell-width + id-place) 0
+
+abbrev pub cell-position : (cs : List ℕ) (i : ℕ) → ℕ
+cell-position cs i = getD cs (i * cell-width + position-place) 0
+
+abbrev pub cell-length : (cs : List ℕ) (i : ℕ) → ℕ
+cell-length cs i = getD cs (i * cell-width + length-place) 0
+
+abbrev pub cell-first : (cs : List ℕ) (i : ℕ) → ℕ
+cell-first cs i = getD cs (i * cell-width + first-place) 0
+
+abbrev pub cell-count : (cs : List ℕ) (i : ℕ) → ℕ
+cell-count cs i = getD cs (i * cell-width + count-place) 0
+
+abbrev pub cell-next : (cs : List ℕ) (i : ℕ) → ℕ
+cell-next cs i = getD cs (i * cell-width + next-place) 0
 
 -- one cell: "kind, id, position from the parent's start, length, first, count, next"
 abbrev pub cell : (kind id position length first count next : ℕ) → List ℕ
@@ -92,7 +133,7 @@ cell-tree ws k i s l a n ts =
 unfoldable pub decode-from : (ws : List ℕ) (n : ℕ) → (cs : List ℕ) → Trees
 decode-from ws zero cs = nil
 decode-from ws (suc n) cs =
-    cell-tree ws (getD cs 0 0) (getD cs 1 0) (getD cs 2 0) (getD cs 3 0) (getD cs 4 0) (getD cs 5 0) (decode-from ws n (drop cell-width cs))
+    cell-tree ws (cell-kind cs 0) (cell-id cs 0) (cell-position cs 0) (cell-length cs 0) (cell-first cs 0) (cell-count cs 0) (decode-from ws n (drop cell-width cs))
 
 -- the trees of all cells, with relative starts; ws are the packed words
 unfoldable pub decode : (ws cs : List ℕ) → Trees

@@ -5,6 +5,7 @@ use mathlib.Core.Option.{Option, some}
 use Prim.Native.Nat.{ℕ, suc, _+_, _-_, _*_}
 use lib.Dec.{ltb, leb}
 use lib.ListN.{length}
+use Rattle.words.specs.Words.{record-width}
 use Rattle.tree.specs.Trees.{Trees, nil, tree, part}
 use Rattle.tree.specs.Items.{Items, mark, span, same, records}
 use Rattle.tree.specs.Groups.{Gathered, gather, pass}
@@ -21,12 +22,12 @@ pub data Record : Type 0 where
 unfoldable pub flattened : Items → (acc : List Record) → List Record
 flattened Items.nil acc = acc
 flattened (mark i s e n rest) acc = rec i s e n ∷ flattened rest acc
-flattened (span i s e kids rest) acc = rec i s e (4 * suc (records kids)) ∷ flattened kids (flattened rest acc)
+flattened (span i s e kids rest) acc = rec i s e (record-width * suc (records kids)) ∷ flattened kids (flattened rest acc)
 
 -- the words of held records, in order, in a part that starts at p, from word `off` on
 unfoldable pub flat-words : (p off : ℕ) → List Record → List ℕ
 flat-words p off [] = []
-flat-words p off (rec i s e n ∷ rs) = i ∷ (s - p) ∷ (e - p) ∷ (off + 4) ∷ flat-words p (off + 4) rs
+flat-words p off (rec i s e n ∷ rs) = i ∷ (s - p) ∷ (e - p) ∷ (off + record-width) ∷ flat-words p (off + record-width) rs
 
 -- where the last of the records in order ends, which is the first one held; or d
 unfoldable pub held-end : (d : ℕ) → List Record → ℕ
@@ -43,11 +44,11 @@ flat-part (rec i s e n ∷ r ∷ rs) ts = part s (held-end e (r ∷ rs) - s) (fl
 
 -- "records above 4 words are dropped; 4-word records, repeat ones too, go to a flat part"
 unfoldable pub hold : Record → (held : List Record) → List Record
-hold (rec i s e n) held = elim (leb n 4) [ true ↦ rec i s e n ∷ held | false ↦ held ]
+hold (rec i s e n) held = elim (leb n record-width) [ true ↦ rec i s e n ∷ held | false ↦ held ]
 
 -- where starts are too early once this record is held: "the first one's end − b (at least 0)"
 unfoldable pub limit : (b : ℕ) → Record → (held : List Record) (stop : ℕ) → ℕ
-limit b (rec i s e n) [] stop = elim (leb n 4) [ true ↦ e - b | false ↦ 0 ]
+limit b (rec i s e n) [] stop = elim (leb n record-width) [ true ↦ e - b | false ↦ 0 ]
 limit b (rec i s e n) (r ∷ rs) stop = stop
 
 -- are 16,383 held?
@@ -56,7 +57,7 @@ full held = leb 16383 (length held)
 
 -- does the flat part at hand end before this record? "until 16,383 are held or one starts before" the limit
 unfoldable pub ends : Record → (held : List Record) (stop : ℕ) → Bool
-ends (rec i s e n) held stop = full held || (leb n 4 && ltb s stop)
+ends (rec i s e n) held stop = full held || (leb n record-width && ltb s stop)
 
 -- What is gathered from the records below such a tree. `inside`: a flat part is at hand; it holds `held` and has the
 -- limit `stop`. "In a repeat tree the rule for records of its own id goes first before each flat part and is not used

@@ -3,8 +3,12 @@
 use mathlib.Core.List.{List, [], _++_}
 use mathlib.Core.Option.{Option, none, some}
 use Prim.Native.Nat.{ℕ, _+_}
-use Rattle.records.specs.Forest.{line, below}
+use Rattle.records.specs.Forest.{line, depth-below}
 use Rattle.tree.specs.Trees.{Trees, nil, tree, part, kids-of}
+
+-- how many words a line has: "listing lines (four words each)"
+abbrev pub line-width : ℕ
+line-width = 4
 
 -- a tree's own line at depth d, by its type
 unfoldable pub node-line : (F d : ℕ) (type : Option ℕ) (s e : ℕ) → List ℕ
@@ -14,7 +18,7 @@ node-line F d (some i) s e = line F d i s e
 -- the depth of its children
 unfoldable pub node-below : (F d : ℕ) (type : Option ℕ) → ℕ
 node-below F d none = d
-node-below F d (some i) = below F d i
+node-below F d (some i) = depth-below F d i
 
 -- the lines of siblings at depth d: "Listing takes a tree without kind 2"
 unfoldable pub listing : (F d : ℕ) → Trees → List ℕ

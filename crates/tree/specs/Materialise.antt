@@ -3,6 +3,7 @@
 use mathlib.Core.List.{List, [], _∷_}
 use mathlib.Core.Option.{some}
 use Prim.Native.Nat.{ℕ, zero, suc, _+_, _-_, _/_}
+use Rattle.words.specs.Words.{record-width}
 use Rattle.tree.specs.Trees.{Trees, nil, tree, part, _⊕_, nodes}
 
 -- of siblings, the first ones, which hold n trees with their descendants; and those after them
@@ -27,8 +28,8 @@ unpack p off (i ∷ []) = nil
 unpack p off (i ∷ s ∷ []) = nil
 unpack p off (i ∷ s ∷ e ∷ []) = nil
 unpack p off (i ∷ s ∷ e ∷ n ∷ ws) =
-    let ts = unpack p (off + 4) ws in
-    let k = (n - (off + 4)) / 4 in
+    let ts = unpack p (off + record-width) ws in
+    let k = (n - (off + record-width)) / record-width in
     tree (some i) (p + s) (e - s) (within ts k) (beyond ts k)
 
 unfoldable pub materialise : Trees → Trees

@@ -5,6 +5,7 @@ use mathlib.Core.List.{List, [], _∷_}
 use Prim.Native.Nat.{ℕ, _+_, _-_, _≤_, _<_}
 use lib.Dec.{ltb, leb}
 use lib.ListN.{length}
+use Rattle.words.specs.Words.{record-width}
 use Rattle.tree.specs.Items.{Items, mark, span}
 use Rattle.tree.specs.Flat.{Record, rec, held-end}
 
@@ -16,7 +17,7 @@ From p (span i s e kids rest) = (p ≤ s) × (s ≤ e) × From p kids × From p 
 
 -- where records before this one end: at its start, or at its end where others may stand in it
 unfoldable pub floor : (n s e : ℕ) → ℕ
-floor n s e = elim (leb n 4) [ true ↦ s | false ↦ e ]
+floor n s e = elim (leb n record-width) [ true ↦ s | false ↦ e ]
 
 -- items from `lo` to `hi`, in order and nested, with ids below T; marks have repeat ids
 abbrev pub Fits : (F T lo hi : ℕ) → Items → Type 0

@@ -4,12 +4,13 @@ use mathlib.Core.List.{List, [], _∷_, _++_}
 use mathlib.Core.Option.{Option, none, some, Option·map}
 use Prim.Native.Nat.{ℕ, suc, _+_, _-_, _*_}
 use lib.Dec.{ltb, leb}
+use Rattle.words.specs.Words.{record-width}
 use Rattle.tree.specs.Trees.{Trees, part}
 use Rattle.tree.specs.Items.{Items, nil, mark, span, records, first, leftmost}
 
 -- the words that a record of id i takes in a part: a repeat record takes none
 unfoldable pub width : (F i : ℕ) → ℕ
-width F i = elim (ltb i F) [ true ↦ 4 | false ↦ 0 ]
+width F i = elim (ltb i F) [ true ↦ record-width | false ↦ 0 ]
 
 -- a run's "words without repeat records"
 unfoldable pub words : (F : ℕ) → Items → ℕ
@@ -37,7 +38,7 @@ scan own limit (span i s e kids rest) = elim (early s limit) [ true ↦ stopped 
 
 -- "a run above 4 words"
 unfoldable pub long : Items → Bool
-long run = ltb 4 (4 * records run)
+long run = ltb record-width (record-width * records run)
 
 -- "A run above 4 words packs if its words without repeat records are at most 65,532."
 unfoldable pub packs : (F : ℕ) → Items → Bool
@@ -58,7 +59,7 @@ run-from F b own i s e kids rest =
 -- "Packed record: id, start and end from the part's start, end index": in a part that starts at p, for a record at word
 -- `off` whose descendants take n words.
 unfoldable pub entry : (F p off i s e n : ℕ) → List ℕ
-entry F p off i s e n = elim (ltb i F) [ true ↦ i ∷ (s - p) ∷ (e - p) ∷ (off + 4 + n) ∷ [] | false ↦ [] ]
+entry F p off i s e n = elim (ltb i F) [ true ↦ i ∷ (s - p) ∷ (e - p) ∷ (off + record-width + n) ∷ [] | false ↦ [] ]
 
 -- the words of a run in a part that starts at p, from word `off` on: "parents first"
 unfoldable pub pack : (F p off : ℕ) → Items → List ℕ

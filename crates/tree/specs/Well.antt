@@ -5,6 +5,7 @@ use mathlib.Core.List.{List, [], _∷_, _++_}
 use mathlib.Core.Bool.{true, false}
 use mathlib.Core.Option.{Option, none, some}
 use Prim.Native.Nat.{ℕ, _+_, _-_, _*_, _≤_, _<_}
+use Rattle.words.specs.Words.{record-width}
 use Rattle.tree.specs.Trees.{Trees, nil, tree, part, nodes}
 use Rattle.tree.specs.Materialise.{unpack}
 use Rattle.tree.specs.Cells.{id-word}
@@ -37,8 +38,8 @@ Short (w ∷ ws) = (w < 65536) × Short ws
 unfoldable pub spelled : (p off : ℕ) → Trees → List ℕ
 spelled p off nil = []
 spelled p off (tree t s l kids rest) =
-    let n = off + 4 + 4 * nodes kids in
-    id-word t ∷ (s - p) ∷ ((s + l) - p) ∷ n ∷ (spelled p (off + 4) kids ++ spelled p n rest)
+    let n = off + record-width + record-width * nodes kids in
+    id-word t ∷ (s - p) ∷ ((s + l) - p) ∷ n ∷ (spelled p (off + record-width) kids ++ spelled p n rest)
 spelled p off (part s l ws rest) = spelled p off rest
 
 -- a part's words are those of its trees: rules 16, 19 and 20; its records nest, are in order and end within its length,

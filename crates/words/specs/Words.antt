@@ -4,19 +4,23 @@ use mathlib.Core.Path.{_≡_}
 use mathlib.Core.List.{List, [], _∷_, _++_}
 use lib.ListN.{length, getD, take, drop}
 
--- The four words of record i, which stands at word offset i * 4: id, start, end, and the last one, which is a size in a
--- record list and an end index in a packed part.
+-- how many words a record has, in a record list and in a packed part
+abbrev pub record-width : ℕ
+record-width = 4
+
+-- The four words of record i: id, start, end, and the last one, which is a size in a record list and an end index in a
+-- packed part.
 abbrev pub id-of : List ℕ → ℕ → ℕ
-id-of w i = getD w (i * 4) 0
+id-of w i = getD w (i * record-width) 0
 
 abbrev pub start-of : List ℕ → ℕ → ℕ
-start-of w i = getD w (i * 4 + 1) 0
+start-of w i = getD w (i * record-width + 1) 0
 
 abbrev pub end-of : List ℕ → ℕ → ℕ
-end-of w i = getD w (i * 4 + 2) 0
+end-of w i = getD w (i * record-width + 2) 0
 
 abbrev pub last-of : List ℕ → ℕ → ℕ
-last-of w i = getD w (i * 4 + 3) 0
+last-of w i = getD w (i * record-width + 3) 0
 
 -- the words from one bound up to another
 abbrev pub run : List ℕ → ℕ → ℕ → List ℕ

@@ -4,10 +4,13 @@ ghost use mathlib.Core.Path.{_≡_};
 ghost use mathlib.Core.List.{[], _∷_};
 ghost use Prim.Native.Nat.{_+_, _-_, _≤_};
 ghost use lib.ListN.{length};
-ghost use Rattle.words.specs.Words.{Widened, put};
+ghost use Rattle.words.specs.Words.{Widened, put, record-width};
 
 // How many words a record has, in a list and in a packed part.
 pub const RECORD_WIDTH: usize = 4;
+
+// The same as a word, as the size of a record counts it.
+pub const RECORD_SIZE: u32 = 4;
 
 // The first place for which a test holds, or nothing.
 pub enum Found {
@@ -55,7 +58,7 @@ pub fn less(a: u32, b: u32) -> u32
 
 // Four words from an offset on.
 pub fn put_record(out: &mut [u16], at: usize, id: u16, start: u16, end: u16, last: u16)
-    requires { ⌜ at + 4 ≤ length (now out) ⌝ }
+    requires { ⌜ at + record-width ≤ length (now out) ⌝ }
     ensures { λ _. ⌜ now (out .exit) ≡ put (now (out .entry)) at (id ∷ start ∷ end ∷ last ∷ []) ⌝ }
 {
     out[at] = id;

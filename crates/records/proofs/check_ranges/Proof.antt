@@ -1,4 +1,4 @@
--- `records::check_ranges` meets its contract: the invariant is `Lowest` before each record, from the laws of proofs/Lowest.
+-- `records::check_ranges` meets its contract: the invariant is `LowestRecord` before each record, from the laws of proofs/LowestRecord.
 -- Assumes nothing.
 use mathlib.Core.Path.{refl}
 use denote.Ref.{now}
@@ -6,19 +6,19 @@ use Prim.Native.Nat.{_-_, _/_}
 use native.Mathlib.Omega.{arith}
 use borrow.Author.Needs.{needs}
 use lib.ListN.{length}
-use Rattle.records.proofs.Lowest as L
+use Rattle.records.proofs.LowestRecord as L
 use Rattle.records.proofs.check_ranges.Statement.{statement}
 use Rattle.records.proofs.check_ranges.Tie as tie
 
 abbrev Inv-loop : tie.InvT-loop
-Inv-loop start records n low₀ i₀ low i = L.Lowest records n i low
+Inv-loop start records n low₀ i₀ low i = L.LowestRecord records n i low
 
 abbrev μ-loop : tie.MeasureT-loop
 μ-loop start records n low₀ i₀ low i = n - i
 
 -- after the last record
 module _ (a : tie.After-loop Inv-loop μ-loop) where
-  all : L.Lowest (now (a .before .before .before .args .records)) (length (now (a .before .before .before .args .records)) / 4) (length (now (a .before .before .before .args .records)) / 4) (a .before .loop .low)
+  all : L.LowestRecord (now (a .before .before .before .args .records)) (length (now (a .before .before .before .args .records)) / 4) (length (now (a .before .before .before .args .records)) / 4) (a .before .loop .low)
   all = L.lowest-end (a .before .loop .inv) (a .loop-test .left)
 
 loop-holds : tie.Need-loop-holds Inv-loop μ-loop

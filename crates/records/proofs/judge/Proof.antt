@@ -44,7 +44,7 @@ loop-less c = omega (arith, child (c .before .before .before) .some-span, child 
 loop-again : tie.Need-loop-again Inv-loop μ-loop
 loop-again c =
     J.judging-next (c .before .before .before .before .before .before .loop .inv) (c .before .before .before .before .before .loop-test .taken) (c .before .before .before .before .back .ensures) (c .before .before .before .span-at .ensures) (c .before .before .behind-at .ensures)
-    (c .before .stands .ensures) (c .noted .ensures)
+    (c .before .stands .ensures) (c .lowest-yet .ensures)
 
 returns : tie.Need-returns Inv-loop μ-loop
 returns c = J.judging-end (c .before .loop .inv) (c .loop-test .left)

@@ -12,7 +12,7 @@ use Rattle.words.specs.Answer.{place-found}
 use Rattle.words.specs.First.{first-from}
 use Rattle.words.specs.Words.{start-of}
 use Rattle.part.specs.Part.{end-index}
-use Rattle.slicing.specs.Slice.{below, outside}
+use Rattle.slicing.specs.Slice.{starts-below, outside}
 use Rattle.words.proofs.Firsts.{from-end, some-from}
 use denote.Ref.{now}
 use Rattle.slicing.proofs.check_cut.Statement.{statement}
@@ -29,7 +29,7 @@ module _ (a : tie.After-loop Inv-loop μ-loop) where
   abbrev cut₁ : List ℕ
   cut₁ = now (a .before .before .before .args .cut)
 
-  low-at : place-found (a .before .loop .low) ≡ below cut₁ (a .before .before .before .args .base)
+  low-at : place-found (a .before .loop .low) ≡ starts-below cut₁ (a .before .before .before .args .base)
   low-at = a .before .loop .inv .1 ∙ first-all (λ (k : ℕ). ltb (start-of cut₁ k) (a .before .before .before .args .base)) _ _ (a .loop-test .left)
 
   far-at : place-found (a .before .loop .far) ≡ outside cut₁ (a .before .before .before .args .to)
@@ -44,16 +44,16 @@ module _ (a : tie.After-loop Inv-loop μ-loop) where
 loop-holds : tie.Need-loop-holds Inv-loop μ-loop
 loop-holds c = (omega arith, sym (from-end _ _ _ (omega arith)), sym (from-end _ _ _ (omega arith)))
 
-cast-noted : tie.Need-cast-noted Inv-loop μ-loop
-cast-noted c = omega (arith, c .shared-slice-known2 .given ((c .before .before .loop .i - 1) * 4 + 1))
+cast-found-first : tie.Need-cast-found-first Inv-loop μ-loop
+cast-found-first c = omega (arith, c .shared-slice-known2 .given ((c .before .before .loop .i - 1) * 4 + 1))
 
 loop-again : tie.Need-loop-again Inv-loop μ-loop
 loop-again c =
     let l = c .before .before .before .before .before .before .loop in
     let w = now (c .before .before .before .before .before .before .before .before .args .cut) in (
       omega arith,
-      first-back (λ (k : ℕ). ltb (start-of w k) (c .before .before .before .before .before .before .before .before .args .base)) (l .i - 1) (length w / 4) (l .i) _ _ _ (omega arith) (omega arith) refl (l .inv .1) (c .before .before .before .noted .ensures),
-      first-back (λ (k : ℕ). ltb (c .before .before .before .before .before .before .before .before .args .to) (end-index w k)) (l .i - 1) (length w / 4) (l .i) _ _ _ (omega arith) (omega arith) (ap (ltb (c .before .before .before .before .before .before .before .before .args .to)) (c .before .wide .ensures .same)) (l .inv .2) (c .noted2 .ensures),
+      first-back (λ (k : ℕ). ltb (start-of w k) (c .before .before .before .before .before .before .before .before .args .base)) (l .i - 1) (length w / 4) (l .i) _ _ _ (omega arith) (omega arith) refl (l .inv .1) (c .before .before .before .found-first .ensures),
+      first-back (λ (k : ℕ). ltb (c .before .before .before .before .before .before .before .before .args .to) (end-index w k)) (l .i - 1) (length w / 4) (l .i) _ _ _ (omega arith) (omega arith) (ap (ltb (c .before .before .before .before .before .before .before .before .args .to)) (c .before .wide .ensures .same)) (l .inv .2) (c .found-first2 .ensures),
     )
 
 mul-t21 : tie.Need-mul-t21 Inv-loop μ-loop
@@ -89,7 +89,7 @@ check-cut-spec =
     (λ c. search needs)
     (λ c. search needs)
     (λ c. search needs)
-    cast-noted
+    cast-found-first
     (λ c κs. search needs)
     (λ c. search needs)
     (λ c. search needs)

@@ -12,7 +12,7 @@ use Rattle.words.specs.Outcome.{accepted, refused}
 use Rattle.words.specs.Words.{id-of, start-of, end-of}
 use Rattle.records.specs.Forest.{Forest, empty, count}
 use Rattle.records.specs.Parse.{parse, parse-from, nearest, farther}
-use Rattle.records.specs.Check.{fills, range-fault, first-level-fault, range-outcome}
+use Rattle.records.specs.Check.{fills, range-fault, list-range-fault, range-outcome}
 use Rattle.records.specs.Taking.{finished, Faultless, judged}
 use Rattle.records.proofs.ParseLaws.{nearest-all, farther-all}
 use Rattle.records.proofs.Spelling.{counted, span, fills-all}
@@ -20,18 +20,18 @@ use Rattle.records.proofs.Progress.{Progress, progress-none, Sized, siz
 use Rattle.records.proofs.Ranges.{least, Between, range-between, inner, level, range-least, judged-level, inner-grown, inner-most}
 
 -- before record i of n: `low` is the lowest record so far, below the first level, to which 10 applies, n for none
-pub record Lowest (ws : List ℕ) (n i low : ℕ) : Type 0 where
+pub record LowestRecord (ws : List ℕ) (n i low : ℕ) : Type 0 where
   pub some-left : i ≤ n
   pub size : length ws ≡ n * 4
   pub faultless : Faultless ws
   pub progress : Progress (faultless .types) ws i
   pub lowest : low ≡ inner n 0 (finished ws i)
 
-pub lowest-none : (ws : List ℕ) (n : ℕ) → length ws ≡ n * 4 → Faultless ws → Lowest ws n 0 n
+pub lowest-none : (ws : List ℕ) (n : ℕ) → length ws ≡ n * 4 → Faultless ws → LowestRecord ws n 0 n
 unfolding finished parse parse-from inner
 lowest-none ws n size h = record { some-left = omega arith; size = size; faultless = h; progress = progress-none (h .types) ws; lowest = refl }
 
-module _ {ws : List ℕ} {n i low : ℕ} (g : Lowest ws n i low) (less : i < n) {m : ℕ} (spans : m ≡ span ws i) where
+module _ {ws : List ℕ} {n i low : ℕ} (g : LowestRecord ws n i low) (less : i < n) {m : ℕ} (spans : m ≡ span ws i) where
   room : i * 4 + 4 ≤ length ws
   room = omega (arith, g .size)
 
@@ -42,7 +42,7 @@ module _ {ws : List ℕ} {n i low : ℕ} (g : Lowest ws n i low) (less : i < n) 
   pub filled : fills (finished ws i) (m - 1) ≡ true
   filled = fills-here (g .faultless .types) ws i (g .progress) room (g .faultless .clear) m spans
 
-  pub lowest-next : {k s e low′ : ℕ} → k ≡ m - 1 → s ≡ start-of ws i → e ≡ end-of ws i → low′ ≡ judged low s e (finished ws i) k → Lowest ws n (i + 1) low′
+  pub lowest-next : {k s e low′ : ℕ} → k ≡ m - 1 → s ≡ start-of ws i → e ≡ end-of ws i → low′ ≡ judged low s e (finished ws i) k → LowestRecord ws n (i + 1) low′
   lowest-next {k} {s} {e} {low′} ek es ee l =
       let p = next-here (g .faultless .types) ws i (g .progress) room (g .faultless .clear) m spans in
       record {
@@ -56,12 +56,12 @@ module _ {ws : List ℕ} {n i low : ℕ} (g : Lowest ws n i low) (less : i < n) 
             ∙ (sym (inner-grown (finished ws i) (m - 1) n (id-of ws i) _ _ (omega (arith, counted ws i (g .progress .sound)))) ∙ ap (inner n 0) (sym (p .1))));
       }
 
-pub lowest-end : {ws : List ℕ} {n i low : ℕ} → Lowest ws n i low → n ≤ i → Lowest ws n n low
+pub lowest-end : {ws : List ℕ} {n i low : ℕ} → LowestRecord ws n i low → n ≤ i → LowestRecord ws n n low
 lowest-end {ws} {n} {i} {low} g h =
     let e : i ≡ n = omega (arith, g .some-left) in
-    subst (λ (k : ℕ). Lowest ws n k low) e g
+    subst (λ (k : ℕ). LowestRecord ws n k low) e g
 
-module _ {ws : List ℕ} {n low : ℕ} (g : Lowest ws n n low) where
+module _ {ws : List ℕ} {n low : ℕ} (g : LowestRecord ws n n low) where
   parsed : finished ws n ≡ parse ws
   parsed = all-parsed (g .faultless .types) ws n (g .size)
 
@@ -73,8 +73,8 @@ module _ {ws : List ℕ} {n low : ℕ} (g : Lowest ws n n low) where
 
   module _ (S : ℕ) where
     -- the lowest of all
-    lowest-is : judged low S 4294967295 (finished ws n) n ≡ least n (first-level-fault S ws)
-    unfolding count first-level-fault
+    lowest-is : judged low S 4294967295 (finished ws n) n ≡ least n (list-range-fault S ws)
+    unfolding count list-range-fault
     lowest-is =
         let c : count (finished ws n) ≡ n = counted ws n (g .progress .sound) in
         let near : nearest (finished ws n) n ≡ finished ws n = ap (nearest (finished ws n)) (sym c) ∙ nearest-all (finished ws n) in
@@ -83,13 +83,13 @@ module _ {ws : List ℕ} {n low : ℕ} (g : Lowest ws n n low) where
         let r = range-least (finished ws n) n S 4294967295 0 (omega arith) in
         rw (near, far) at j ∙ (rw (g .lowest) (sym r ∙ ap (λ (f : Forest). least n (range-fault S 4294967295 0 f)) parsed))
 
-    between : Between 0 (0 + count (parse ws)) (first-level-fault S ws)
-    unfolding first-level-fault
+    between : Between 0 (0 + count (parse ws)) (list-range-fault S ws)
+    unfolding list-range-fault
     between = range-between (parse ws) S 4294967295 0
 
     module _ {l : ℕ} (is : l ≡ judged low S 4294967295 (finished ws n) n) where
-      pub lowest-refused : l < n → refused 10 l ≡ range-outcome (length ws / 4) (first-level-fault S ws)
-      lowest-refused h = go (first-level-fault S ws) between (is ∙ lowest-is)
+      pub lowest-refused : l < n → refused 10 l ≡ range-outcome (length ws / 4) (list-range-fault S ws)
+      lowest-refused h = go (list-range-fault S ws) between (is ∙ lowest-is)
         where
           go : (o : Option ℕ) → Between 0 (0 + count (parse ws)) o → l ≡ least n o → refused 10 l ≡ range-outcome (length ws / 4) o
           go none b m = absurd (omega arith)
@@ -97,8 +97,8 @@ module _ {ws : List ℕ} {n low : ℕ} (g : Lowest ws n n low) where
               let k : l ≡ c = omega (arith, all-counted) in
               ap (refused 10) k
 
-      pub lowest-accepted : n ≤ l → accepted (n ∷ []) ≡ range-outcome (length ws / 4) (first-level-fault S ws)
-      lowest-accepted h = go (first-level-fault S ws) between (is ∙ lowest-is)
+      pub lowest-accepted : n ≤ l → accepted (n ∷ []) ≡ range-outcome (length ws / 4) (list-range-fault S ws)
+      lowest-accepted h = go (list-range-fault S ws) between (is ∙ lowest-is)
         where
           go : (o : Option ℕ) → Between 0 (0 + count (parse ws)) o → l ≡ least n o → accepted (n ∷ []) ≡ range-outcome (length ws / 4) o
           go (some c) b m = absurd (omega (arith, all-counted))
