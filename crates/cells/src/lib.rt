@@ -23,6 +23,7 @@ use tree::CELL_WIDTH;
 use tree::COUNT;
 use tree::FIRST;
 use tree::ID;
+use tree::KIND;
 use tree::LENGTH;
 use tree::NEXT;
 use tree::POSITION;
@@ -108,7 +109,7 @@ fn last_part(cells: &[u32], n: usize) -> usize
 {
     let mut last = n;
     while 0 < last {
-        if cells[(last - 1) * CELL_WIDTH] == 2 {
+        if cells[(last - 1) * CELL_WIDTH + KIND] == 2 {
             return last;
         }
         last -= 1;
@@ -229,7 +230,7 @@ fn read_cell(cells: &[u32], i: usize) -> CellWords
     ensures { λ r. ⌜ cell-of r ≡ cell-at (now (cells .entry)) i ⌝ }
 {
     CellWords {
-        kind: cells[i * CELL_WIDTH],
+        kind: cells[i * CELL_WIDTH + KIND],
         id: cells[i * CELL_WIDTH + ID],
         position: cells[i * CELL_WIDTH + POSITION],
         len: cells[i * CELL_WIDTH + LENGTH],

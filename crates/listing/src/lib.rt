@@ -14,6 +14,7 @@ ghost use Rattle.listing.specs.Steps.{is-listed, own-line, lines-from, n
 use tree::CELL_WIDTH;
 use tree::FIRST;
 use tree::ID;
+use tree::KIND;
 use tree::LENGTH;
 use tree::LINE_WIDTH;
 use tree::NEXT;
@@ -33,7 +34,7 @@ fn is_listed(cells: &[u32], first_repeat: u32, i: usize) -> bool
     requires { ⌜ i * cell-width + cell-width ≤ length (now cells) ⌝ }
     ensures { λ r. ⌜ r ≡ is-listed «first_repeat» (now (cells .entry)) i ⌝ }
 {
-    if cells[i * CELL_WIDTH] != 1 {
+    if cells[i * CELL_WIDTH + KIND] != 1 {
         return false;
     }
     cells[i * CELL_WIDTH + ID] < first_repeat

@@ -1,6 +1,7 @@
 -- `cells::last_part` meets its contract. The invariant: no part stands from that cell on. Assumes nothing.
 use borrow.Author.Needs.{needs}
 use Prim.Native.Nat.{_-_, _≤_}
+use native.Mathlib.Nat.{add-zero}
 use native.Mathlib.Omega.{arith}
 use denote.Ref.{now}
 use Rattle.cells.proofs.Reading.{Bare, bare-start, bare-back, last-none, last-found}
@@ -20,13 +21,13 @@ returns : tie.Need-returns Inv-loop μ-loop
 returns c =
     let a = c .before .before .before .before .args in
     let v = c .before .before .before .loop in
-    last-found (now (a .cells)) (a .n) (v .last) (c .before .before .before .before .pre) (c .before .before .loop-test .taken) (v .inv .0) (c .if1 .taken) (v .inv .1)
+    last-found (now (a .cells)) (a .n) (v .last) (c .before .before .before .before .pre) (c .before .before .loop-test .taken) (v .inv .0) (simp add-zero at (c .if1 .taken)) (v .inv .1)
 
 loop-again : tie.Need-loop-again Inv-loop μ-loop
 loop-again c =
     let a = c .before .before .before .before .args in
     let v = c .before .before .before .loop in
-    (omega arith, bare-back (now (a .cells)) (a .n) (v .last) (c .before .before .before .before .pre) (c .before .before .loop-test .taken) (v .inv .0) (c .if1 .left) (v .inv .1))
+    (omega arith, bare-back (now (a .cells)) (a .n) (v .last) (c .before .before .before .before .pre) (c .before .before .loop-test .taken) (v .inv .0) (simp add-zero at (c .if1 .left)) (v .inv .1))
 
 returns-2 : tie.Need-returns-2 Inv-loop μ-loop
 returns-2 c =
@@ -40,6 +41,7 @@ last-part-spec =
     Inv-loop
     μ-loop
     loop-holds
+    (λ c. search needs)
     (λ c. search needs)
     (λ c. search needs)
     (λ c. search needs)
