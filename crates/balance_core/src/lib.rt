@@ -34,7 +34,7 @@ fn balanced_node_size(work: &[u32], node: u32, kind: u32, id: u32) -> u32
     ensures { λ r. ⌜ r ≡ sized (now (work .entry)) node kind id ⌝ }
 {
     let n = words::index(node);
-    if work[n] == kind {
+    if work[n + NODE_KIND] == kind {
         if work[n + NODE_ID] == id {
             return store::at_least_one(store::like(work, work[n + NODE_FIRST], kind, id));
         }

@@ -1,4 +1,5 @@
 -- A cell's words from what the calls answered, and the copy of words. Assumes nothing.
+use native.Mathlib.Nat.{add-zero}
 use mathlib.Core.Path.{_≡_, ap, _∙_}
 use mathlib.Core.List.{List, [], _∷_}
 use mathlib.Core.Bool.{cond}
@@ -14,14 +15,14 @@ use Rattle.store.specs.Store.{told, liked, tree-cell, part-cell, PartRea
 
 module _ (w out out′ : List ℕ) (n q cell : ℕ) where
   pub tree-written : (start first count below big next : ℕ)
-      → out′ ≡ put out (cell * 7) (getD w n 0 ∷ getD w (n + 1) 0 ∷ start ∷ getD w (n + 3) 0 ∷ first ∷ count ∷ next ∷ [])
+      → out′ ≡ put out (cell * 7) (getD w (n + 0) 0 ∷ getD w (n + 1) 0 ∷ start ∷ getD w (n + 3) 0 ∷ first ∷ count ∷ next ∷ [])
       → start ≡ getD w (n + 2) 0 - q
       → first ≡ cond (eqb (getD w (n + 4) 0) 0) 0 (cell + 2)
       → count ≡ told w (getD w (n + 4) 0) 8
       → next ≡ cond (eqb (getD w (n + 5) 0) 0) 0 (cell + 2 + big)
       → big ≡ below → below ≡ told w (getD w (n + 4) 0) 6
       → out′ ≡ put out (cell * 7) (tree-cell w n q cell)
-  tree-written start first count below big next e e₁ e₂ e₃ e₄ e₅ e₆ = e ∙ rw (e₄, e₅, e₆, e₁, e₂, e₃)
+  tree-written start first count below big next e e₁ e₂ e₃ e₄ e₅ e₆ = e ∙ rw (add-zero n, e₄, e₅, e₆, e₁, e₂, e₃)
 
   pub part-written : (word start next : ℕ)
       → out′ ≡ put out (cell * 7) (2 ∷ 0 ∷ start ∷ getD w (n + 3) 0 ∷ word ∷ getD w (n + 1) 0 ∷ next ∷ [])

@@ -55,7 +55,7 @@ fn put_node(
     requires { ⌜ at + node-width ≤ lib.ListN.length (now work) ⌝ }
     ensures { λ _. ⌜ now (work .exit) ≡ put (now (work .entry)) at (kind ∷ id ∷ start ∷ length ∷ first ∷ next ∷ cells ∷ words ∷ trees ∷ like ∷ []) ⌝ }
 {
-    work[at] = kind;
+    work[at + NODE_KIND] = kind;
     work[at + NODE_ID] = id;
     work[at + NODE_START] = start;
     work[at + NODE_LENGTH] = length;
@@ -98,7 +98,7 @@ pub fn like(work: &[u32], node: u32, kind: u32, id: u32) -> u32
         return 1;
     }
     let n = words::index(node);
-    if work[n] == kind {
+    if work[n + NODE_KIND] == kind {
         if work[n + NODE_ID] == id {
             return work[n + NODE_LIKE];
         }
@@ -277,10 +277,10 @@ fn write_tree(work: &[u32], n: usize, from: u32, out: &mut [u32], cell: usize)
     put_cell(
         out,
         cell * CELL_WIDTH,
-        work[n],
-        work[n + 1],
+        work[n + NODE_KIND],
+        work[n + NODE_ID],
         start,
-        work[n + 3],
+        work[n + NODE_LENGTH],
         first,
         count,
         next,
@@ -310,9 +310,9 @@ fn write_part(
         2,
         0,
         start,
-        work[n + 3],
+        work[n + NODE_LENGTH],
         word as u32,
-        work[n + 1],
+        work[n + NODE_ID],
         next,
     );
     count
@@ -357,7 +357,7 @@ pub fn write_cells(
         }
         let n = words::index(at);
         let next = work[n + NODE_NEXT];
-        if work[n] == 2 {
+        if work[n + NODE_KIND] == 2 {
             let count = write_part(work, n, from, out, cell, words, word);
             word += count;
             cell += 1;

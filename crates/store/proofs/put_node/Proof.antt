@@ -1,4 +1,5 @@
 -- `store::put_node` meets its contract: ten stores in a row are ten words put into the list. Assumes nothing.
+use native.Mathlib.Nat.{add-zero}
 use Rattle.store.proofs.Puts.{put-ten}
 use native.Mathlib.Omega.{arith}
 use lib.ListN.{length-set}
@@ -40,12 +41,13 @@ same-length c = simp length-set
 returns : tie.Need-returns
 returns c =
     let a = c .args in
-    put-ten (now (a .work)) (a .at) (a .kind) (a .id) (a .start) (a .length) (a .first) (a .next) (a .cells) (a .words) (a .trees) (a .like) (c .pre)
+    rw (add-zero (a .at)) (put-ten (now (a .work)) (a .at) (a .kind) (a .id) (a .start) (a .length) (a .first) (a .next) (a .cells) (a .words) (a .trees) (a .like) (c .pre))
 
 pub put-node-spec : {M : Type 1} → statement M
 put-node-spec =
     tie.close
     (tie.spec
+    (λ c. search needs)
     (λ c. search needs)
     (λ c. search needs)
     (λ c. search needs)

@@ -1,4 +1,5 @@
 -- `store::write_cells` meets its contract: the cells and words done stand at the front of the outputs. Assumes nothing.
+use native.Mathlib.Nat.{add-zero}
 use Rattle.store.proofs.Writer.{Going, going-same, going-start, total, out-same, words-same, going-end, going-pop, node-inside, cell-next, cell-room, part-ready, TreeReady, tree-ready, going-tree, going-part}
 use Rattle.store.proofs.Flow.{Later, end}
 use Rattle.words.specs.Words.{put}
@@ -151,6 +152,9 @@ mul-next c = omega (arith, inside-at c)
 slice-read-next : tie.Need-slice-read-next Inv-loop μ-loop
 slice-read-next c = omega (arith, inside-at (c .before))
 
+add-if3 : tie.Need-add-if3 Inv-loop μ-loop
+add-if3 c = omega (arith, inside-at (c .before))
+
 mul-if3 : tie.Need-mul-if3 Inv-loop μ-loop
 mul-if3 c = omega (arith, inside-at (c .before))
 
@@ -158,10 +162,10 @@ slice-read-if3 : tie.Need-slice-read-if3 Inv-loop μ-loop
 slice-read-if3 c = omega (arith, inside-at (c .before .before))
 
 write-part-requires : tie.Need-write-part-requires Inv-loop μ-loop
-write-part-requires c κs = part-at (c .before .before .before .before .before .before) (c .before .before .before .if3 .taken)
+write-part-requires c κs = part-at (c .before .before .before .before .before .before) (simp add-zero at (c .before .before .before .if3 .taken))
 
 add-word : tie.Need-add-word Inv-loop μ-loop
-add-word c = omega (arith, part-over (c .before .before .before .before .before .before .before .before .before .before .before) (c .before .before .before .before .before .before .before .before .if3 .taken) (c .before .before .before .before .write-part .last .1 .1 .1 .0) (c .before .before .before .before .write-part .last .1 .1 .1 .1 .1 .0) (c .before .before .before .before .write-part .result) (c .before .before .before .before .write-part .ensures) .0)
+add-word c = omega (arith, part-over (c .before .before .before .before .before .before .before .before .before .before .before) (simp add-zero at (c .before .before .before .before .before .before .before .before .if3 .taken)) (c .before .before .before .before .write-part .last .1 .1 .1 .0) (c .before .before .before .before .write-part .last .1 .1 .1 .1 .1 .0) (c .before .before .before .before .write-part .result) (c .before .before .before .before .write-part .ensures) .0)
 
 add-cell : tie.Need-add-cell Inv-loop μ-loop
 add-cell c = omega (arith, next-at (c .before .before .before .before .before .before .before .before .before .before .before))
@@ -170,10 +174,10 @@ loop-less-2 : tie.Need-loop-less-2 Inv-loop μ-loop
 loop-less-2 c = omega (arith, next-at (c .before .before .before .before .before .before .before .before .before .before .before), total-at (c .before .before .before .before .before .before .before .before .before .before .before .before .before))
 
 loop-again-2 : tie.Need-loop-again-2 Inv-loop μ-loop
-loop-again-2 c = let q = part-over (c .before .before .before .before .before .before .before .before .before .before .before) (c .before .before .before .before .before .before .before .before .if3 .taken) (c .before .before .before .before .write-part .last .1 .1 .1 .0) (c .before .before .before .before .write-part .last .1 .1 .1 .1 .1 .0) (c .before .before .before .before .write-part .result) (c .before .before .before .before .write-part .ensures) .1 in (p₁ (c .before .before .before .before .before .before .before .before .before .before .before .before .before), q .0, q .1, q .2)
+loop-again-2 c = let q = part-over (c .before .before .before .before .before .before .before .before .before .before .before) (simp add-zero at (c .before .before .before .before .before .before .before .before .if3 .taken)) (c .before .before .before .before .write-part .last .1 .1 .1 .0) (c .before .before .before .before .write-part .last .1 .1 .1 .1 .1 .0) (c .before .before .before .before .write-part .result) (c .before .before .before .before .write-part .ensures) .1 in (p₁ (c .before .before .before .before .before .before .before .before .before .before .before .before .before), q .0, q .1, q .2)
 
 write-tree-requires : tie.Need-write-tree-requires Inv-loop μ-loop
-write-tree-requires c κs = let r = tree-at (c .before .before .before .before .before) (c .before .before .if3 .left) in (inside-at (c .before .before .before .before .before), (r .kids-read, (room-at (c .before .before .before .before .before), r .few)))
+write-tree-requires c κs = let r = tree-at (c .before .before .before .before .before) (simp add-zero at (c .before .before .if3 .left)) in (inside-at (c .before .before .before .before .before), (r .kids-read, (room-at (c .before .before .before .before .before), r .few)))
 
 add-at : tie.Need-add-at Inv-loop μ-loop
 add-at c = omega (arith, inside-at (c .before .before .before .before .before .before .before .before))
@@ -194,10 +198,10 @@ slice-read-q : tie.Need-slice-read-q Inv-loop μ-loop
 slice-read-q c = omega (arith, inside-at (c .before .before .before .before .before .before .before .before .before .before))
 
 put-two-requires : tie.Need-put-two-requires Inv-loop μ-loop
-put-two-requires c κs = tree-at (c .before .before .before .before .before .before .before .before .before .before .before) (c .before .before .before .before .before .before .before .before .if3 .left) .stack
+put-two-requires c κs = tree-at (c .before .before .before .before .before .before .before .before .before .before .before) (simp add-zero at (c .before .before .before .before .before .before .before .before .if3 .left)) .stack
 
 add-sp : tie.Need-add-sp Inv-loop μ-loop
-add-sp c = omega (arith, tree-at (c .before .before .before .before .before .before .before .before .before .before .before .before .before .before) (c .before .before .before .before .before .before .before .before .before .before .before .if3 .left) .stack)
+add-sp c = omega (arith, tree-at (c .before .before .before .before .before .before .before .before .before .before .before .before .before .before) (simp add-zero at (c .before .before .before .before .before .before .before .before .before .before .before .if3 .left)) .stack)
 
 add-cell-2 : tie.Need-add-cell-2 Inv-loop μ-loop
 add-cell-2 c = omega (arith, next-at (c .before .before .before .before .before .before .before .before .before .before .before .before .before .before))
@@ -206,7 +210,7 @@ loop-less-3 : tie.Need-loop-less-3 Inv-loop μ-loop
 loop-less-3 c = omega (arith, next-at (c .before .before .before .before .before .before .before .before .before .before .before .before .before .before), total-at (c .before .before .before .before .before .before .before .before .before .before .before .before .before .before .before .before), going-at (c .before .before .before .before .before .before .before .before .before .before .before .before .before .before .before .before) .inside)
 
 loop-again-3 : tie.Need-loop-again-3 Inv-loop μ-loop
-loop-again-3 c = let q = tree-over (c .before .before .before .before .before .before .before .before .before .before .before .before .before .before) (c .before .before .before .before .before .before .before .before .before .before .before .if3 .left) (c .before .before .before .before .before .before .before .before .write-tree .last .1 .1 .1 .0) (c .before .before .put-two .last .0) (c .before .before .before .before .before .before .before .before .write-tree .ensures) (c .before .before .put-two .ensures) in (p₁ (c .before .before .before .before .before .before .before .before .before .before .before .before .before .before .before .before), q .0, q .1, q .2)
+loop-again-3 c = let q = tree-over (c .before .before .before .before .before .before .before .before .before .before .before .before .before .before) (simp add-zero at (c .before .before .before .before .before .before .before .before .before .before .before .if3 .left)) (c .before .before .before .before .before .before .before .before .write-tree .last .1 .1 .1 .0) (c .before .before .put-two .last .0) (c .before .before .before .before .before .before .before .before .write-tree .ensures) (c .before .before .put-two .ensures) in (p₁ (c .before .before .before .before .before .before .before .before .before .before .before .before .before .before .before .before), q .0, q .1, q .2)
 
 pub write-cells-spec : {M : Type 1} → statement M
 write-cells-spec =
@@ -233,6 +237,7 @@ write-cells-spec =
     add-next
     mul-next
     slice-read-next
+    add-if3
     mul-if3
     slice-read-if3
     write-part-requires
