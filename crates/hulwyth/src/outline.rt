@@ -3,15 +3,20 @@
 ghost use mathlib.Core.Path.{_≡_};
 ghost use Prim.Native.Nat.{_+_, _*_, _≤_};
 ghost use lib.ListN.{length};
+ghost use Rattle.tree.specs.Cells.{cell-width};
 use crate::names::print_id;
 use crate::output::put;
 use crate::packed::print_indent;
 use crate::packed::print_part_at;
 use crate::packed::print_range;
-
-fn index(word: u32) -> usize {
-    word as usize
-}
+use tree::CELL_WIDTH;
+use tree::COUNT;
+use tree::FIRST;
+use tree::ID;
+use tree::KIND;
+use tree::LENGTH;
+use tree::NEXT;
+use tree::POSITION;
 
 // What a cell is: a tree is shown by its id.
 fn print_label(page: &mut [u8], names: &[u8], kind: u32, id: u32)
@@ -79,14 +84,14 @@ fn print_one(
 )
     requires { ⌜ 32768 ≡ length (now names) ⌝ }
     requires { ⌜ length (now words) ≤ length (now ends) ⌝ }
-    requires { ⌜ i * 7 + 7 ≤ length (now cells) ⌝ }
+    requires { ⌜ i * cell-width + cell-width ≤ length (now cells) ⌝ }
 {
-    let kind = cells[i * 7];
-    let id = cells[i * 7 + 1];
-    let start = std::num::wrapping_add_u32(base, cells[i * 7 + 2]);
-    let long = cells[i * 7 + 3];
-    let first = index(cells[i * 7 + 4]);
-    let count = index(cells[i * 7 + 5]);
+    let kind = cells[i * CELL_WIDTH + KIND];
+    let id = cells[i * CELL_WIDTH + ID];
+    let start = std::num::wrapping_add_u32(base, cells[i * CELL_WIDTH + POSITION]);
+    let long = cells[i * CELL_WIDTH + LENGTH];
+    let first = words::index(cells[i * CELL_WIDTH + FIRST]);
+    let count = words::index(cells[i * CELL_WIDTH + COUNT]);
     print_indent(page, depth as usize);
     print_cell(page, names, first_repeat, kind, id, start, long);
     if kind == 2 {
@@ -116,7 +121,7 @@ fn print_noted(
 )
     requires { ⌜ 32768 ≡ length (now names) ⌝ }
     requires { ⌜ length (now words) ≤ length (now ends) ⌝ }
-    requires { ⌜ i * 7 + 7 ≤ length (now cells) ⌝ }
+    requires { ⌜ i * cell-width + cell-width ≤ length (now cells) ⌝ }
     requires { ⌜ i * 2 + 4 ≤ length (now notes) ⌝ }
 {
     let base = notes[i * 2 + 2];
@@ -136,16 +141,16 @@ fn print_noted(
 
 // Notes what the next sibling and the first child of cell i, counted from 0, need.
 fn note_links(cells: &[u32], i: usize, notes: &mut [u32])
-    requires { ⌜ i * 7 + 7 ≤ length (now cells) ⌝ }
+    requires { ⌜ i * cell-width + cell-width ≤ length (now cells) ⌝ }
     requires { ⌜ i * 2 + 4 ≤ length (now notes) ⌝ }
 {
     let base = notes[i * 2 + 2];
     let depth = notes[i * 2 + 3];
-    note(notes, cells[i * 7 + 6], base, depth);
-    if cells[i * 7] != 2 {
-        let start = std::num::wrapping_add_u32(base, cells[i * 7 + 2]);
+    note(notes, cells[i * CELL_WIDTH + NEXT], base, depth);
+    if cells[i * CELL_WIDTH + KIND] != 2 {
+        let start = std::num::wrapping_add_u32(base, cells[i * CELL_WIDTH + POSITION]);
         let deeper = std::num::wrapping_add_u32(depth, 1);
-        note(notes, cells[i * 7 + 4], start, deeper);
+        note(notes, cells[i * CELL_WIDTH + FIRST], start, deeper);
     }
 }
 
@@ -162,7 +167,7 @@ fn print_next(
 )
     requires { ⌜ 32768 ≡ length (now names) ⌝ }
     requires { ⌜ length (now words) ≤ length (now ends) ⌝ }
-    requires { ⌜ i * 7 + 7 ≤ length (now cells) ⌝ }
+    requires { ⌜ i * cell-width + cell-width ≤ length (now cells) ⌝ }
     requires { ⌜ i * 2 + 4 ≤ length (now notes) ⌝ }
 {
     print_noted(page, names, first_repeat, cells, words, i, notes, ends);
@@ -185,7 +190,7 @@ pub fn print_tree(
     requires { ⌜ length (now cells) ≤ length (now notes) ⌝ }
 {
     note(notes, 1, start, 0);
-    let count = cells.len() / 7;
+    let count = cells.len() / CELL_WIDTH;
     let mut i: usize = 0;
     while i < count {
         print_next(page, names, first_repeat, cells, words, i, notes, ends);

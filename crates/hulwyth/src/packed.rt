@@ -2,13 +2,11 @@
 ghost use mathlib.Core.Path.{_≡_};
 ghost use Prim.Native.Nat.{_+_, _≤_, _<_};
 ghost use lib.ListN.{length};
+ghost use Rattle.words.specs.Words.{record-width};
 use crate::names::print_id;
 use crate::output::put;
 use crate::output::put_number;
-
-fn wide(word: u16) -> u32 {
-    word as u32
-}
+use words::RECORD_WIDTH;
 
 // A position counted from a start.
 fn later(start: u32, by: u16) -> u64 {
@@ -35,7 +33,7 @@ fn still_open(ends: &[u16], held: usize, at: usize) -> usize
 {
     let mut count = held;
     while 0 < count {
-        if at < wide(ends[count - 1]) as usize {
+        if at < words::wide(ends[count - 1]) {
             return count;
         }
         count -= 1;
@@ -46,10 +44,10 @@ fn still_open(ends: &[u16], held: usize, at: usize) -> usize
 // The record of a part at a word offset; `start` is the part's.
 fn print_packed(page: &mut [u8], names: &[u8], part: &[u16], at: usize, start: u32, depth: usize)
     requires { ⌜ 32768 ≡ length (now names) ⌝ }
-    requires { ⌜ at + 4 ≤ length (now part) ⌝ }
+    requires { ⌜ at + record-width ≤ length (now part) ⌝ }
 {
     print_indent(page, depth);
-    print_id(page, names, wide(part[at]));
+    print_id(page, names, words::word(part[at]));
     print_range(page, later(start, part[at + 1]), later(start, part[at + 2]));
     put(page, b"\n");
 }
@@ -67,7 +65,7 @@ fn print_under(
     held: usize,
 ) -> usize
     requires { ⌜ 32768 ≡ length (now names) ⌝ }
-    requires { ⌜ at + 4 ≤ length (now part) ⌝ }
+    requires { ⌜ at + record-width ≤ length (now part) ⌝ }
     requires { ⌜ held < length (now ends) ⌝ }
     ensures { λ r. ⌜ r ≤ held + 1 ⌝ }
 {
@@ -90,11 +88,11 @@ fn print_part(
     requires { ⌜ 32768 ≡ length (now names) ⌝ }
     requires { ⌜ length (now part) ≤ length (now ends) ⌝ }
 {
-    let count = part.len() / 4;
+    let count = part.len() / RECORD_WIDTH;
     let mut held: usize = 0;
     let mut i: usize = 0;
     while i < count {
-        held = print_under(page, names, part, i * 4, start, depth, ends, held);
+        held = print_under(page, names, part, i * RECORD_WIDTH, start, depth, ends, held);
         i += 1;
     }
 }

@@ -12,6 +12,7 @@ use crate::problem::is_fine;
 use crate::settings::SETTINGS;
 use crate::settings::read_setting;
 use crate::settings::setting_of;
+use words::RECORD_WIDTH;
 
 // How far the reading came: the words of the records so far, and what is wrong with the line.
 struct Progress {
@@ -48,13 +49,13 @@ fn read_record(line: &[u8], records: &mut [u32], held: usize) -> Progress
     requires { ⌜ held ≤ length (now records) ⌝ }
     ensures { λ r. ⌜ r .held ≤ length (now (records .exit)) ⌝ }
 {
-    if records.len() - held < 4 {
+    if records.len() - held < RECORD_WIDTH {
         return Progress {
             held: held,
             problem: Problem::Full,
         };
     }
-    let next = held + 4;
+    let next = held + RECORD_WIDTH;
     let problem = read_numbers(line, 0, &mut records[held..next]);
     Progress {
         held: next,

@@ -13,25 +13,28 @@ use crate::settings::Numbers;
 use crate::tables;
 use listing::Listed;
 use materialize::Materialized;
+use tree::CELL_WIDTH;
+use tree::LINE_WIDTH;
+use words::RECORD_WIDTH;
 
 // How many words so many cells have, as far as the slice goes.
 fn cell_words(count: usize, cells: &[u32]) -> usize
     ensures { λ r. ⌜ Counts r (now (cells .entry)) ⌝ }
 {
-    if cells.len() / 7 < count {
+    if cells.len() / CELL_WIDTH < count {
         return cells.len();
     }
-    count * 7
+    count * CELL_WIDTH
 }
 
 // The same of lines.
 fn line_words(count: usize, lines: &[u32]) -> usize
     ensures { λ r. ⌜ Counts r (now (lines .entry)) ⌝ }
 {
-    if lines.len() / 4 < count {
+    if lines.len() / LINE_WIDTH < count {
         return lines.len();
     }
-    count * 4
+    count * LINE_WIDTH
 }
 
 // The same of packed words.
@@ -44,8 +47,8 @@ fn packed_words(count: usize, words: &[u16]) -> usize
     count
 }
 
-// How many records are ordinary: 1 for an id below the first repeat id.
-fn below(id: u32, first_repeat: u32) -> usize
+// How many ordinary records a record of this id is: 1 where the id is below the first repeat id, else 0.
+fn one_if_ordinary(id: u32, first_repeat: u32) -> usize
     ensures { λ r. ⌜ r ≤ 1 ⌝ }
 {
     if id < first_repeat {
@@ -56,11 +59,11 @@ fn below(id: u32, first_repeat: u32) -> usize
 
 // How many records of a list are ordinary.
 fn ordinary(records: &[u32], first_repeat: u32) -> usize {
-    let count = records.len() / 4;
+    let count = records.len() / RECORD_WIDTH;
     let mut found: usize = 0;
     let mut i: usize = 0;
     while i < count {
-        found += below(records[i * 4], first_repeat);
+        found += one_if_ordinary(records[i * RECORD_WIDTH], first_repeat);
         i += 1;
     }
     found
@@ -142,7 +145,7 @@ fn show_outline(
     requires { ⌜ length (now words) ≤ 16384 ⌝ }
 {
     let mut ends = rooms::words();
-    print_sizes(page, records, cells.len() / 7, words.len());
+    print_sizes(page, records, cells.len() / CELL_WIDTH, words.len());
     outline::print_tree(
         page,
         names,
@@ -184,7 +187,7 @@ fn show_tree(
     requires { ⌜ length (now cells) ≤ length (now work) ⌝ }
     requires { ⌜ length (now words) ≤ 16384 ⌝ }
 {
-    show_outline(page, names, numbers, records.len() / 4, cells, words, work);
+    show_outline(page, names, numbers, records.len() / RECORD_WIDTH, cells, words, work);
     show_cells(page, options, cells);
     show_words(page, options, words);
     show_tree_list(page, names, numbers, records, cells, words, work);

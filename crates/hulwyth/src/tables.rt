@@ -2,9 +2,13 @@
 ghost use mathlib.Core.Path.{_≡_};
 ghost use Prim.Native.Nat.{_+_, _≤_};
 ghost use lib.ListN.{length};
+ghost use Rattle.tree.specs.Listing.{line-width};
 use crate::names::print_id;
 use crate::output::put;
 use crate::output::put_number;
+use tree::CELL_WIDTH;
+use tree::LINE_WIDTH;
+use words::RECORD_WIDTH;
 
 fn wide(word: u32) -> u64 {
     word as u64
@@ -27,12 +31,12 @@ fn print_row(page: &mut [u8], row: &[u32]) {
 // The cells, one a line, each with its number.
 pub fn print_cells(page: &mut [u8], cells: &[u32]) {
     put(page, b"cells: kind id position length first count next\n");
-    let count = cells.len() / 7;
+    let count = cells.len() / CELL_WIDTH;
     let mut i: usize = 0;
     while i < count {
         put_number(page, b" ", (i + 1) as u64);
         put(page, b":");
-        print_row(page, &cells[i * 7..i * 7 + 7]);
+        print_row(page, &cells[i * CELL_WIDTH..i * CELL_WIDTH + CELL_WIDTH]);
         i += 1;
     }
 }
@@ -50,12 +54,12 @@ fn print_packed(page: &mut [u8], row: &[u16]) {
 // The packed words, a record's four a line, each with its offset.
 pub fn print_words(page: &mut [u8], words: &[u16]) {
     put(page, b"words: id start end end-index\n");
-    let count = words.len() / 4;
+    let count = words.len() / RECORD_WIDTH;
     let mut i: usize = 0;
     while i < count {
-        put_number(page, b" ", (i * 4) as u64);
+        put_number(page, b" ", (i * RECORD_WIDTH) as u64);
         put(page, b":");
-        print_packed(page, &words[i * 4..i * 4 + 4]);
+        print_packed(page, &words[i * RECORD_WIDTH..i * RECORD_WIDTH + RECORD_WIDTH]);
         i += 1;
     }
 }
@@ -70,7 +74,7 @@ fn print_bounds(page: &mut [u8], start: u32, end: u32) {
 // A line of a listing: depth, id with its name, start, end.
 fn print_line(page: &mut [u8], names: &[u8], lines: &[u32], at: usize)
     requires { ⌜ 32768 ≡ length (now names) ⌝ }
-    requires { ⌜ at + 4 ≤ length (now lines) ⌝ }
+    requires { ⌜ at + line-width ≤ length (now lines) ⌝ }
 {
     put_number(page, b" ", wide(lines[at]));
     put(page, b" ");
@@ -83,10 +87,10 @@ pub fn print_lines(page: &mut [u8], names: &[u8], lines: &[u32])
     requires { ⌜ 32768 ≡ length (now names) ⌝ }
 {
     put(page, b"listing: depth id start end\n");
-    let count = lines.len() / 4;
+    let count = lines.len() / LINE_WIDTH;
     let mut i: usize = 0;
     while i < count {
-        print_line(page, names, lines, i * 4);
+        print_line(page, names, lines, i * LINE_WIDTH);
         i += 1;
     }
 }

@@ -25,5 +25,4 @@ still-open-spec =
     (λ c. search needs)
     (λ c. search needs)
     (λ c. search needs)
-    (λ c. search needs)
     (λ c. search needs))
