@@ -1,10 +1,10 @@
--- `take::take_deep` meets its contract. Assumes nothing.
+-- `take::stepping::take_deep` meets its contract. Assumes nothing.
 use denote.Ref.{now}
 use Rattle.cursor.specs.Own.{own-of}
 use Rattle.take.proofs.Deep.{deep-some, flat-asks, finish-asks, deepened}
 use borrow.Author.Needs.{needs}
-use Rattle.take.proofs.take_deep.Statement.{statement}
-use Rattle.take.proofs.take_deep.Tie as tie
+use Rattle.take.proofs.stepping.take_deep.Statement.{statement}
+use Rattle.take.proofs.stepping.take_deep.Tie as tie
 
 back-requires : tie.Need-back-requires
 back-requires c κs =

@@ -1,11 +1,11 @@
--- `take::step` meets its contract, each case. Assumes nothing.
+-- `take::stepping::step` meets its contract, each case. Assumes nothing.
 use mathlib.Core.Path.{sym, _∙_}
 use denote.Ref.{now}
 use Rattle.cursor.specs.Own.{own-of}
 use Rattle.take.proofs.Loop.{close-asks, closed-step, read-within, pass-asks, passed-step, take-asks, took-step}
 use borrow.Author.Needs.{needs}
-use Rattle.take.proofs.step.Statement.{statement}
-use Rattle.take.proofs.step.Tie as tie
+use Rattle.take.proofs.stepping.step.Statement.{statement}
+use Rattle.take.proofs.stepping.step.Tie as tie
 
 close-tree-requires : tie.Need-close-tree-requires
 close-tree-requires c κs =

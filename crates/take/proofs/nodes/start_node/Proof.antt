@@ -1,10 +1,10 @@
--- `take::start_node` meets its contract. Assumes nothing.
+-- `take::nodes::start_node` meets its contract. Assumes nothing.
 use denote.Ref.{now}
 use Rattle.cursor.specs.Own.{own-of}
 use Rattle.take.proofs.Starting.{take-asks, part-asks, pending-asks, started-part, started-tree}
 use borrow.Author.Needs.{needs}
-use Rattle.take.proofs.start_node.Statement.{statement}
-use Rattle.take.proofs.start_node.Tie as tie
+use Rattle.take.proofs.nodes.start_node.Statement.{statement}
+use Rattle.take.proofs.nodes.start_node.Tie as tie
 
 take-run-requires : tie.Need-take-run-requires
 take-run-requires c κs =

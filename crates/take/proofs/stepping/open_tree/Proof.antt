@@ -1,10 +1,10 @@
--- `take::open_tree` meets its contract. Assumes nothing.
+-- `take::stepping::open_tree` meets its contract. Assumes nothing.
 use native.Mathlib.Omega.{arith}
 use denote.Ref.{now}
 use Rattle.take.proofs.Opening.{open-within, opened}
 use borrow.Author.Needs.{needs}
-use Rattle.take.proofs.open_tree.Statement.{statement}
-use Rattle.take.proofs.open_tree.Tie as tie
+use Rattle.take.proofs.stepping.open_tree.Statement.{statement}
+use Rattle.take.proofs.stepping.open_tree.Tie as tie
 
 back-requires : tie.Need-back-requires
 back-requires c κs =

@@ -1,10 +1,10 @@
--- `take::take_record` meets its contract, each case. Assumes nothing.
+-- `take::stepping::take_record` meets its contract, each case. Assumes nothing.
 use denote.Ref.{now}
 use Rattle.cursor.specs.Own.{own-of}
 use Rattle.take.proofs.Loop.{part-fits, took-part, deep-asks, took-deep, open-asks, took-open}
 use borrow.Author.Needs.{needs}
-use Rattle.take.proofs.take_record.Statement.{statement}
-use Rattle.take.proofs.take_record.Tie as tie
+use Rattle.take.proofs.stepping.take_record.Statement.{statement}
+use Rattle.take.proofs.stepping.take_record.Tie as tie
 
 with-part-requires : tie.Need-with-part-requires
 with-part-requires c κs =

@@ -1,10 +1,10 @@
--- `take::pass_record` meets its contract. Assumes nothing.
+-- `take::stepping::pass_record` meets its contract. Assumes nothing.
 use native.Mathlib.Omega.{arith}
 use denote.Ref.{now}
 use Rattle.take.proofs.Passing.{pass-asks, pass-within, passed-on}
 use borrow.Author.Needs.{needs}
-use Rattle.take.proofs.pass_record.Statement.{statement}
-use Rattle.take.proofs.pass_record.Tie as tie
+use Rattle.take.proofs.stepping.pass_record.Statement.{statement}
+use Rattle.take.proofs.stepping.pass_record.Tie as tie
 
 back-requires : tie.Need-back-requires
 back-requires c κs = let q = c .before .before .pre in omega (arith, q .some-record)
