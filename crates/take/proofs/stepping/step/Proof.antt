@@ -1,7 +1,11 @@
 -- `take::stepping::step` meets its contract, each case. Assumes nothing.
-use mathlib.Core.Path.{sym, _∙_}
+use Prim.Native.Nat.{ℕ, _-_, _<_}
+use mathlib.Core.Path.{_≡_, sym, _∙_}
+use mathlib.Core.Option.{Option}
 use denote.Ref.{now}
 use Rattle.cursor.specs.Own.{own-of}
+use Rattle.words.specs.Words.{id-of}
+use Rattle.take.specs.Loop.{own-at}
 use Rattle.take.proofs.Loop.{close-asks, closed-step, read-within, pass-asks, passed-step, take-asks, took-step}
 use borrow.Author.Needs.{needs}
 use Rattle.take.proofs.stepping.step.Statement.{statement}
@@ -28,43 +32,65 @@ id-at-requires c κs =
     let z = c .before .before .before .before .before .before .before in
     rw (c .back .ensures) ((read-within (z .args .first-repeat) (z .args .bound) (now (z .args .records)) (now (z .args .work)) (z .args .s) (z .pre) (c .before .before .if1 .left)) .1)
 
+-- where the last record's id has been compared with the tree's own
+module _ (i : tie.After-is-own) where
+  abbrev start : tie.Start
+  start = i .before .before .before .before .before .before .before .before .before
+
+  abbrev own : Option ℕ
+  own = own-of (i .before .before .before .own-at .result)
+
+  abbrev id : ℕ
+  id = i .before .id-at .result
+
+  abbrev last : ℕ
+  last = i .before .before .back .result
+
+  own-is : own ≡ own-at (start .args .first-repeat) (start .args .s .depth) (start .args .s .tree .id)
+  own-is = i .before .before .before .own-at .ensures
+
+  last-is : last ≡ start .args .s .p - 1
+  last-is = i .before .before .back .ensures
+
+  id-is : id ≡ id-of (now (start .args .records)) last
+  id-is = i .before .id-at .ensures
+
+  inside : start .args .s .tree .floor < start .args .s .p
+  inside = i .before .before .before .before .if1 .left
+
 pass-record-requires : tie.Need-pass-record-requires
 pass-record-requires c κs =
-    let c₃ = c .before .before .before in
-    let c₄ = c₃ .before in
-    let c₅ = c₄ .before in
-    let c₆ = c₅ .before in
-    let z = c₆ .before .before .before .before .before in
-    pass-asks (z .args .first-repeat) (z .args .bound) (now (z .args .records)) (now (z .args .work)) (z .args .s) (own-of (c₅ .own-at .result)) (c₅ .own-at .ensures) (c₃ .id-at .result) (c₄ .back .result) (c₄ .back .ensures) (c₃ .id-at .ensures) (c₆ .if1 .left) (sym (c .before .before .is-own .ensures) ∙ c .before .if2 .taken) (z .pre)
+    let i = c .before .before in
+    let z = start i in
+    let asks = pass-asks (z .args .first-repeat) (z .args .bound) (now (z .args .records)) (now (z .args .work)) (z .args .s) in
+    asks (own i) (own-is i) (id i) (last i) (last-is i) (id-is i) (inside i) (sym (i .is-own .ensures) ∙ c .before .if2 .taken) (z .pre)
 
 returns-2 : tie.Need-returns-2
 returns-2 c =
     let c₂ = c .before .before in
-    let c₆ = c₂ .before .before .before .before in
-    let c₇ = c₆ .before in
-    let c₈ = c₇ .before in
-    let c₉ = c₈ .before in
-    let z = c₉ .before .before .before .before .before in
-    passed-step (z .args .first-repeat) (z .args .bound) (now (z .args .records)) (now (z .args .work)) (z .args .s) (own-of (c₈ .own-at .result)) (c₈ .own-at .ensures) (c₆ .id-at .result) (c₇ .back .result) (c₇ .back .ensures) (c₆ .id-at .ensures) (c₉ .if1 .left) (sym (c .before .before .before .before .before .is-own .ensures) ∙ c .before .before .before .before .if2 .taken) (c₂ .pass-record .last .1 .1 .0) (c₂ .pass-record .result) (c₂ .pass-record .ensures)
+    let i = c₂ .before .before .before in
+    let z = start i in
+    let passed = passed-step (z .args .first-repeat) (z .args .bound) (now (z .args .records)) (now (z .args .work)) (z .args .s) in
+    let same = sym (i .is-own .ensures) ∙ c₂ .before .before .if2 .taken in
+    let p = c₂ .pass-record in
+    passed (own i) (own-is i) (id i) (last i) (last-is i) (id-is i) (inside i) same (p .last .1 .1 .0) (p .result) (p .ensures)
 
 take-record-requires : tie.Need-take-record-requires
 take-record-requires c κs =
-    let c₃ = c .before .before .before in
-    let c₄ = c₃ .before in
-    let c₅ = c₄ .before in
-    let c₆ = c₅ .before in
-    let z = c₆ .before .before .before .before .before in
-    take-asks (z .args .first-repeat) (z .args .bound) (now (z .args .records)) (now (z .args .work)) (z .args .s) (own-of (c₅ .own-at .result)) (c₅ .own-at .ensures) (c₃ .id-at .result) (c₄ .back .result) (c₄ .back .ensures) (c₃ .id-at .ensures) (c₆ .if1 .left) (sym (c .before .before .is-own .ensures) ∙ c .before .if2 .left) (z .pre)
+    let i = c .before .before in
+    let z = start i in
+    let asks = take-asks (z .args .first-repeat) (z .args .bound) (now (z .args .records)) (now (z .args .work)) (z .args .s) in
+    asks (own i) (own-is i) (id i) (last i) (last-is i) (id-is i) (inside i) (sym (i .is-own .ensures) ∙ c .before .if2 .left) (z .pre)
 
 returns-3 : tie.Need-returns-3
 returns-3 c =
     let c₂ = c .before .before in
-    let c₆ = c₂ .before .before .before .before in
-    let c₇ = c₆ .before in
-    let c₈ = c₇ .before in
-    let c₉ = c₈ .before in
-    let z = c₉ .before .before .before .before .before in
-    took-step (z .args .first-repeat) (z .args .bound) (now (z .args .records)) (now (z .args .work)) (z .args .s) (own-of (c₈ .own-at .result)) (c₈ .own-at .ensures) (c₆ .id-at .result) (c₇ .back .result) (c₇ .back .ensures) (c₆ .id-at .ensures) (c₉ .if1 .left) (sym (c .before .before .before .before .before .is-own .ensures) ∙ c .before .before .before .before .if2 .left) (c₂ .take-record .last .1 .1 .1 .1 .0) (c₂ .take-record .result) (c₂ .take-record .ensures)
+    let i = c₂ .before .before .before in
+    let z = start i in
+    let took = took-step (z .args .first-repeat) (z .args .bound) (now (z .args .records)) (now (z .args .work)) (z .args .s) in
+    let other = sym (i .is-own .ensures) ∙ c₂ .before .before .if2 .left in
+    let p = c₂ .take-record in
+    took (own i) (own-is i) (id i) (last i) (last-is i) (id-is i) (inside i) other (p .last .1 .1 .1 .1 .0) (p .result) (p .ensures)
 
 pub step-spec : {M : Type 1} → statement M
 step-spec =
