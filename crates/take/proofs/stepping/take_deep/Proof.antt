@@ -1,6 +1,11 @@
 -- `take::stepping::take_deep` meets its contract. Assumes nothing.
+use Prim.Native.Nat.{ℕ, _-_}
+use mathlib.Core.Path.{_≡_}
+use mathlib.Core.List.{List}
+use mathlib.Core.Option.{Option}
 use denote.Ref.{now}
 use Rattle.cursor.specs.Own.{own-of}
+use Rattle.tree.specs.Items.{repeats}
 use Rattle.take.proofs.Deep.{deep-some, flat-asks, finish-asks, deepened}
 use borrow.Author.Needs.{needs}
 use Rattle.take.proofs.stepping.take_deep.Statement.{statement}
@@ -11,28 +16,58 @@ back-requires c κs =
     let z = c .before .before in
     deep-some (z .args .first-repeat) (z .args .bound) (now (z .args .records)) (now (z .args .work)) (z .args .s) (z .args .node) (z .args .memo) (z .pre)
 
+-- where it is known what the tree's children stand under
+module _ (e : tie.After-in-repeat) where
+  abbrev start : tie.Start
+  start = e .before .before .before .before .before .before .before
+
+  abbrev records : List ℕ
+  records = now (start .args .records)
+
+  abbrev work : List ℕ
+  work = now (start .args .work)
+
+  abbrev own : Option ℕ
+  own = own-of (e .in-repeat .result)
+
+  abbrev last : ℕ
+  last = e .before .before .before .before .back .result
+
+  own-is : own ≡ repeats (start .args .first-repeat) (start .args .node .id)
+  own-is = e .in-repeat .ensures
+
+  last-is : last ≡ start .args .s .p - 1
+  last-is = e .before .before .before .before .back .ensures
+
 take-flat-requires : tie.Need-take-flat-requires
 take-flat-requires c κs =
-    let c₅ = c .before .before .before .before .before in
-    let z = c₅ .before .before .before in
-    flat-asks (z .args .first-repeat) (z .args .bound) (now (z .args .records)) (now (z .args .work)) (z .args .s) (z .args .node) (z .args .memo) (own-of (c .before .in-repeat .result)) (c .before .in-repeat .ensures) (c₅ .back .result) (c₅ .back .ensures) (z .pre)
+    let e = c .before in
+    let z = start e in
+    let asks = flat-asks (z .args .first-repeat) (z .args .bound) (records e) (work e) (z .args .s) (z .args .node) (z .args .memo) in
+    asks (own e) (own-is e) (last e) (last-is e) (z .pre)
 
 finish-node-requires : tie.Need-finish-node-requires
 finish-node-requires c κs =
-    let c₄ = c .before .before .before .before in
-    let c₆ = c₄ .before .before in
-    let c₁₀ = c₆ .before .before .before .before in
-    let z = c₁₀ .before .before .before in
-    finish-asks (z .args .first-repeat) (z .args .bound) (now (z .args .records)) (now (z .args .work)) (z .args .s) (z .args .node) (z .args .memo) (own-of (c₆ .in-repeat .result)) (c₆ .in-repeat .ensures) (c₁₀ .back .result) (c₁₀ .back .ensures) (c₄ .take-flat .last .1 .1 .1 .1 .1 .0) (c₄ .take-flat .result .g .top) (c₄ .take-flat .result .low) (c₄ .take-flat .result .g .groups) (c₄ .take-flat .result .g .loose) (c₄ .take-flat .result .g .edge) (c₄ .take-flat .ensures) (z .pre)
+    let f = c .before .before .before .before in
+    let e = f .before .before in
+    let z = start e in
+    let r = f .take-flat .result in
+    let asks = finish-asks (z .args .first-repeat) (z .args .bound) (records e) (work e) (z .args .s) (z .args .node) (z .args .memo) in
+    let taken = asks (own e) (own-is e) (last e) (last-is e) (f .take-flat .last .1 .1 .1 .1 .1 .0) in
+    taken (r .g .top) (r .low) (r .g .groups) (r .g .loose) (r .g .edge) (f .take-flat .ensures) (z .pre)
 
 returns : tie.Need-returns
 returns c =
-    let c₂ = c .before .before in
-    let c₇ = c₂ .before .before .before .before .before in
-    let c₉ = c₇ .before .before in
-    let c₁₃ = c₉ .before .before .before .before in
-    let z = c₁₃ .before .before .before in
-    deepened (z .args .first-repeat) (z .args .bound) (now (z .args .records)) (now (z .args .work)) (z .args .s) (z .args .node) (z .args .memo) (own-of (c₉ .in-repeat .result)) (c₉ .in-repeat .ensures) (c₁₃ .back .result) (c₁₃ .back .ensures) (c₇ .take-flat .last .1 .1 .1 .1 .1 .0) (c₇ .take-flat .result .g .top) (c₇ .take-flat .result .low) (c₇ .take-flat .result .g .groups) (c₇ .take-flat .result .g .loose) (c₇ .take-flat .result .g .edge) (c₇ .take-flat .ensures) (z .pre) (c₂ .finish-node .last .0) (c₂ .finish-node .result .top) (c₂ .finish-node .result .node) (c₂ .finish-node .ensures)
+    let n = c .before .before in
+    let f = n .before .before .before .before .before in
+    let e = f .before .before in
+    let z = start e in
+    let r = f .take-flat .result in
+    let m = n .finish-node in
+    let deep = deepened (z .args .first-repeat) (z .args .bound) (records e) (work e) (z .args .s) (z .args .node) (z .args .memo) in
+    let taken = deep (own e) (own-is e) (last e) (last-is e) (f .take-flat .last .1 .1 .1 .1 .1 .0) in
+    let done = taken (r .g .top) (r .low) (r .g .groups) (r .g .loose) (r .g .edge) (f .take-flat .ensures) (z .pre) in
+    done (m .last .0) (m .result .top) (m .result .node) (m .ensures)
 
 pub take-deep-spec : {M : Type 1} → statement M
 take-deep-spec =
