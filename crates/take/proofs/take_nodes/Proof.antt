@@ -34,7 +34,10 @@ loop-again c =
     let c₂ = c .before .before in
     let c₆ = c₂ .before .before .before .before in
     let z = c₆ .before .before .before in
-    kept-step (z .args .first-repeat) (z .args .bound) (now (z .args .records)) (now (z .args .work)) (z .args .from) (c₆ .loop .work) (c₂ .step .last .1 .1 .1 .0) (c₆ .loop .s) (c₂ .step .result) (c₂ .step .kept .1 .1 .1 .0) (c₆ .loop .inv) (sym (c .before .before .before .before .before .finished .ensures) ∙ not-true _ (c .before .before .before .before .if1 .taken)) (c₂ .step .ensures)
+    let unfinished = sym (c₂ .before .before .before .finished .ensures) ∙ not-true _ (c₂ .before .before .if1 .taken) in
+    let kept = kept-step (z .args .first-repeat) (z .args .bound) (now (z .args .records)) (now (z .args .work)) (z .args .from) in
+    let t = c₂ .step in
+    kept (c₆ .loop .work) (t .last .1 .1 .1 .0) (c₆ .loop .s) (t .result) (t .kept .1 .1 .1 .0) (c₆ .loop .inv) unfinished (t .ensures)
 
 same-length : tie.Need-same-length Inv-loop μ-loop
 same-length c = c .before .before .before .loop .inv .size

@@ -1,10 +1,10 @@
--- `take::pass_record` meets its contract. Assumes nothing.
+-- `take::stepping::pass_record` meets its contract. Assumes nothing.
 use native.Mathlib.Omega.{arith}
 use denote.Ref.{now}
 use Rattle.take.proofs.Passing.{pass-asks, pass-within, passed-on}
 use borrow.Author.Needs.{needs}
-use Rattle.take.proofs.pass_record.Statement.{statement}
-use Rattle.take.proofs.pass_record.Tie as tie
+use Rattle.take.proofs.stepping.pass_record.Statement.{statement}
+use Rattle.take.proofs.stepping.pass_record.Tie as tie
 
 back-requires : tie.Need-back-requires
 back-requires c κs = let q = c .before .before .pre in omega (arith, q .some-record)
@@ -26,8 +26,14 @@ pass-over-requires c κs =
 
 returns : tie.Need-returns
 returns c =
-    let a = c .before .before .before .before .before .before .before .before .before .before .before .before .args in
-    passed-on (now (a .records)) (now (a .work)) (a .bound) (a .s) (c .before .before .before .before .before .before .before .before .before .before .before .before .pre) (c .before .before .pass-over .last .0) (c .before .before .before .before .before .before .before .before .before .back .result) (c .before .before .before .before .before .before .before .before .id-at .result) (c .before .before .before .before .before .before .before .end-at .result) (c .before .before .pass-over .result) (c .before .before .before .before .before .before .before .before .before .back .ensures) (c .before .before .before .before .before .before .before .before .id-at .ensures) (c .before .before .before .before .before .before .before .end-at .ensures) (c .before .before .pass-over .ensures)
+    let o = c .before .before in
+    let e = o .before .before .before .before .before in
+    let i = e .before in
+    let k = i .before in
+    let z = k .before .before .before in
+    let passed = passed-on (now (z .args .records)) (now (z .args .work)) (z .args .bound) (z .args .s) (z .pre) (o .pass-over .last .0) in
+    let read = passed (k .back .result) (i .id-at .result) (e .end-at .result) (o .pass-over .result) in
+    read (k .back .ensures) (i .id-at .ensures) (e .end-at .ensures) (o .pass-over .ensures)
 
 pub pass-record-spec : {M : Type 1} → statement M
 pass-record-spec =

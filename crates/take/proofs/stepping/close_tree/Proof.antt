@@ -1,10 +1,10 @@
--- `take::close_tree` meets its contract. Assumes nothing.
+-- `take::stepping::close_tree` meets its contract. Assumes nothing.
 use native.Mathlib.Omega.{arith}
 use denote.Ref.{now}
 use Rattle.take.proofs.Closing.{close-within, close-asks, closed}
 use borrow.Author.Needs.{needs}
-use Rattle.take.proofs.close_tree.Statement.{statement}
-use Rattle.take.proofs.close_tree.Tie as tie
+use Rattle.take.proofs.stepping.close_tree.Statement.{statement}
+use Rattle.take.proofs.stepping.close_tree.Tie as tie
 
 sub-depth : tie.Need-sub-depth
 sub-depth c =

@@ -1,10 +1,10 @@
--- `take::open_tree` meets its contract. Assumes nothing.
+-- `take::stepping::open_tree` meets its contract. Assumes nothing.
 use native.Mathlib.Omega.{arith}
 use denote.Ref.{now}
 use Rattle.take.proofs.Opening.{open-within, opened}
 use borrow.Author.Needs.{needs}
-use Rattle.take.proofs.open_tree.Statement.{statement}
-use Rattle.take.proofs.open_tree.Tie as tie
+use Rattle.take.proofs.stepping.open_tree.Statement.{statement}
+use Rattle.take.proofs.stepping.open_tree.Tie as tie
 
 back-requires : tie.Need-back-requires
 back-requires c κs =
@@ -44,8 +44,12 @@ add-t14 c =
 
 returns : tie.Need-returns
 returns c =
-    let a = c .before .before .before .before .before .before .before .before .before .before .before .before .args in
-    rw (c .before .before .before .before .push-frame .ensures) (opened (now (a .records)) (now (a .work)) (a .s) (a .node) (a .memo) (c .before .before .before .before .before .before .before .before .before .before .before .before .pre) (c .before .before .before .before .before .before .before .before .before .back .result) (c .before .no-memo .result) (c .before .before .before .before .before .before .before .before .before .back .ensures) (c .before .no-memo .ensures))
+    let n = c .before in
+    let f = n .before .before .before in
+    let k = f .before .before .before .before .before in
+    let z = k .before .before .before in
+    let open-at = opened (now (z .args .records)) (now (z .args .work)) (z .args .s) (z .args .node) (z .args .memo) (z .pre) in
+    rw (f .push-frame .ensures) (open-at (k .back .result) (n .no-memo .result) (k .back .ensures) (n .no-memo .ensures))
 
 pub open-tree-spec : {M : Type 1} → statement M
 open-tree-spec =

@@ -1,11 +1,11 @@
--- `take::push_frame` meets its contract: eleven stores in a row are eleven words put into the list. Assumes nothing.
+-- `take::waiting::push_frame` meets its contract: eleven stores in a row are eleven words put into the list. Assumes nothing.
 use Rattle.take.proofs.Frames.{put-eleven}
 use native.Mathlib.Omega.{arith}
 use lib.ListN.{length-set}
 use denote.Ref.{now}
 use borrow.Author.Needs.{needs}
-use Rattle.take.proofs.push_frame.Statement.{statement}
-use Rattle.take.proofs.push_frame.Tie as tie
+use Rattle.take.proofs.waiting.push_frame.Statement.{statement}
+use Rattle.take.proofs.waiting.push_frame.Tie as tie
 
 slice-write-work-2 : tie.Need-slice-write-work-2
 slice-write-work-2 c = simp length-set (omega arith)

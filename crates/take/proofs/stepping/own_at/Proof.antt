@@ -1,9 +1,9 @@
--- `take::own_at` meets its contract, each case. Assumes nothing.
+-- `take::stepping::own_at` meets its contract, each case. Assumes nothing.
 use mathlib.Core.Path.{_∙_}
 use Rattle.take.proofs.Loop.{own-none, own-some}
 use borrow.Author.Needs.{needs}
-use Rattle.take.proofs.own_at.Statement.{statement}
-use Rattle.take.proofs.own_at.Tie as tie
+use Rattle.take.proofs.stepping.own_at.Statement.{statement}
+use Rattle.take.proofs.stepping.own_at.Tie as tie
 
 returns : tie.Need-returns
 returns c = own-none (c .before .args .first-repeat) (c .before .args .depth) (c .before .args .id) (c .if1 .taken)

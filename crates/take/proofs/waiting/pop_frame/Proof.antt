@@ -1,9 +1,9 @@
--- `take::pop_frame` meets its contract: its fields are the words. Assumes nothing.
+-- `take::waiting::pop_frame` meets its contract: its fields are the words. Assumes nothing.
 use Rattle.take.proofs.Frames.{frame-is}
 use denote.Ref.{now}
 use borrow.Author.Needs.{needs}
-use Rattle.take.proofs.pop_frame.Statement.{statement}
-use Rattle.take.proofs.pop_frame.Tie as tie
+use Rattle.take.proofs.waiting.pop_frame.Statement.{statement}
+use Rattle.take.proofs.waiting.pop_frame.Tie as tie
 
 returns : tie.Need-returns
 returns c =
