@@ -6,6 +6,7 @@ use mathlib.Core.List.{List, [], _∷_}
 use mathlib.Core.Option.{Option, none}
 use Prim.Native.Nat.{ℕ, suc, _+_, _-_, _*_, _/_, _≤_, _<_}
 use lib.ListN.{length, getD}
+use Rattle.words.specs.Words.{record-width}
 use Rattle.tree.specs.Trees.{nil, _⊕_}
 use Rattle.tree.specs.Items.{Items, same, repeats}
 use Rattle.tree.specs.Groups.{Gathered, gather, finish}
@@ -57,7 +58,11 @@ owed (k ∷ ks) = 34 + 24 * due (k .own) (k .g) + owed ks
 abbrev pub memo-at : (l : List ℕ) (at : ℕ) → Memo
 memo-at l at = record { place = getD l at 0; start = getD l (at + 1) 0; mark = getD l (at + 2) 0; edge = getD l (at + 3) 0 }
 
--- the frame in eleven words
+-- how many words the frame of a tree that waits has
+abbrev pub frame-width : ℕ
+frame-width = 11
+
+-- the frame that stands from an index on
 abbrev pub frame-at : (l : List ℕ) (at : ℕ) → Frame
 frame-at l at = record {
   tree = record { id = getD l at 0; start = getD l (at + 1) 0; end = getD l (at + 2) 0; floor = getD l (at + 3) 0 };
@@ -86,7 +91,7 @@ module _ (F T b : ℕ) (w l : List ℕ) where
       record {
         under : ℕ;
         hi : ℕ;
-        at-is : at ≡ under + 11;
+        at-is : at ≡ under + frame-width;
         id-is : getD l under 0 ≡ k .id;
         start-is : getD l (under + 1) 0 ≡ k .start;
         end-is : getD l (under + 2) 0 ≡ k .end;
@@ -111,18 +116,18 @@ pub record Going (F T b : ℕ) (w l : List ℕ) (whole : Gathered) (s : State) :
   pub small : hi ≤ 4294967295
   pub types : T ≤ 65536
   pub bound : b ≤ 65535
-  pub few : length w / 4 ≤ 1048576
+  pub few : length w / record-width ≤ 1048576
   pub depth-is : s .depth ≡ deep stack
-  pub shallow : s .depth + s .p ≤ length w / 4
+  pub shallow : s .depth + s .p ≤ length w / record-width
   pub level : Level F T b w l base (s .children .top) (s .low) (own-under F stack (s .tree .id)) (s .tree .floor) (s .p) its g
       (s .children .groups) (s .children .loose) (s .children .edge) (s .tree .start) hi hi (s .tree .end) (s .memo)
-  pub frames : Frames F T b w l (length w / 4 + 1) base (s .children .top) (s .low) (length w / 4 + 1 + 11 * s .depth) (s .tree .id) (s .tree .start) (s .tree .end)
+  pub frames : Frames F T b w l (length w / record-width + 1) base (s .children .top) (s .low) (length w / record-width + 1 + frame-width * s .depth) (s .tree .id) (s .tree .start) (s .tree .end)
       (s .tree .floor) stack
   pub value : settled F b (s .tree .id) (s .tree .start) (s .tree .end) stack (walk F b its (deep stack) 0 (own-under F stack (s .tree .id)) g) ≡ whole
   -- what is left for the records still to be read, and behind them for the writer
-  pub room : s .children .top + 24 * due (own-under F stack (s .tree .id)) g + owed stack + 40 * s .p + (4 * (length w / 4) + 12) ≤ s .low
-  pub base-is : base ≡ 12 * (length w / 4) + 1
+  pub room : s .children .top + 24 * due (own-under F stack (s .tree .id)) g + owed stack + 40 * s .p + (4 * (length w / record-width) + 12) ≤ s .low
+  pub base-is : base ≡ 12 * (length w / record-width) + 1
   pub above : base ≤ s .children .top
   pub inside : s .low ≤ length l
   pub fits : length l ≤ 4294967295
-  pub counted : Counted F w l (length w / 4)
+  pub counted : Counted F w l (length w / record-width)

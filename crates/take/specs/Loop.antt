@@ -6,6 +6,7 @@ use mathlib.Core.Option.{Option, none}
 use Prim.Native.Nat.{ℕ, zero, suc, _+_, _*_, _/_, _≤_, _<_}
 use lib.Dec.{leb}
 use lib.ListN.{length}
+use Rattle.words.specs.Words.{record-width}
 use Rattle.records.specs.Forest.{behind}
 use Rattle.records.specs.Parse.{parse}
 use Rattle.tree.specs.Items.{Items, items, repeats}
@@ -74,6 +75,6 @@ pub record Taken-all (F b S : ℕ) (w l : List ℕ) (top low kids : ℕ) : Type 
   pub base : ℕ
   pub live : 0 < base
   pub above : base ≤ top
-  pub room : top + (4 * (length w / 4) + 12) ≤ low
+  pub room : top + (4 * (length w / record-width) + 12) ≤ low
   pub inside : low ≤ length l
   pub holds : Holds l base top low kids (first-level F b S (parse w))

@@ -5,7 +5,7 @@ use mathlib.Core.List.{List}
 use mathlib.Core.Option.{Option}
 use Prim.Native.Nat.{ℕ, _+_, _-_, _/_, _≤_, _<_}
 use lib.ListN.{length}
-use Rattle.words.specs.Words.{id-of, start-of, end-of, last-of}
+use Rattle.words.specs.Words.{id-of, start-of, end-of, last-of, record-width}
 use Rattle.tree.specs.Items.{same}
 use Rattle.tree.specs.Groups.{Gathered}
 use Rattle.store.specs.Store.{Readable, PushedPart, node-width}
@@ -34,7 +34,7 @@ pub record PartBuilt (l l′ : List ℕ) (s : State) (x : Part) (r : BuiltNode) 
 -- the last record as a tree
 abbrev pub pending : (w : List ℕ) (p : ℕ) (memo : Memo) → PendingNode
 pending w p memo = record {
-  node = record { id = id-of w (p - 1); start = start-of w (p - 1); end = end-of w (p - 1); floor = p - last-of w (p - 1) / 4 };
+  node = record { id = id-of w (p - 1); start = start-of w (p - 1); end = end-of w (p - 1); floor = p - last-of w (p - 1) / record-width };
   memo = memo;
 }
 

@@ -2,7 +2,7 @@
 ghost use mathlib.Core.Path.{_≡_};
 ghost use Prim.Native.Nat.{_-_, _*_, _/_, _≤_, _<_};
 ghost use lib.ListN.{length};
-ghost use Rattle.words.specs.Words.{last-of};
+ghost use Rattle.words.specs.Words.{last-of, record-width};
 ghost use Rattle.cursor.specs.Own.{own-of};
 ghost use Rattle.take.specs.Starting.{PartReady, PartBuilt, pending, Starts, Started};
 use crate::BuiltNode;
@@ -10,6 +10,7 @@ use crate::Node;
 use crate::PendingNode;
 use crate::StartedNode;
 use crate::State;
+use words::RECORD_SIZE;
 
 // The part of a run, in front of the children of the tree that is read.
 fn built_part(work: &mut [u32], s: State, part: pack::Part) -> BuiltNode
@@ -37,9 +38,9 @@ fn built_part(work: &mut [u32], s: State, part: pack::Part) -> BuiltNode
 // The last record as a tree to be read.
 fn pending_node(records: &[u32], p: usize, memo: scan::Memo) -> PendingNode
     requires { ⌜ 0 < p ⌝ }
-    requires { ⌜ p * 4 ≤ length (now records) ⌝ }
+    requires { ⌜ p * record-width ≤ length (now records) ⌝ }
     requires { ⌜ p < 4294967296 ⌝ }
-    requires { ⌜ last-of (now records) (p - 1) / 4 ≤ p ⌝ }
+    requires { ⌜ last-of (now records) (p - 1) / record-width ≤ p ⌝ }
     ensures { λ r. ⌜ r ≡ pending (now (records .entry)) p memo ⌝ }
 {
     let last = reader::last_record(records, p);
@@ -47,7 +48,7 @@ fn pending_node(records: &[u32], p: usize, memo: scan::Memo) -> PendingNode
         id: last.id,
         start: last.start,
         end: last.end,
-        floor: (p - (last.size / 4) as usize) as u32,
+        floor: (p - (last.size / RECORD_SIZE) as usize) as u32,
     };
     PendingNode {
         node: node,

@@ -2,6 +2,7 @@
 ghost use mathlib.Core.Path.{_≡_};
 ghost use Prim.Native.Nat.{_+_, _≤_, _<_};
 ghost use lib.ListN.{length};
+ghost use Rattle.store.specs.Store.{node-width};
 ghost use Rattle.cursor.specs.Own.{own-of};
 ghost use Rattle.take.specs.Starting.{Starts};
 ghost use Rattle.take.specs.Loop.{own-at, WithPart, TookRecord, Unfinished, Stepped};
@@ -11,8 +12,11 @@ use crate::Node;
 use crate::StartedNode;
 use crate::State;
 use crate::nodes::start_node;
+use crate::waiting::FRAME_WIDTH;
 use crate::waiting::pop_frame;
 use crate::waiting::push_frame;
+use store::NODE_WIDTH;
+use words::RECORD_WIDTH;
 
 // A memo of nothing: no walk got past place p.
 fn no_memo(p: usize) -> scan::Memo
@@ -55,7 +59,7 @@ fn close_tree(records: &[u32], work: &mut [u32], s: State) -> State
     ensures { λ r. ⌜ Closed (now (records .entry)) (now (work .entry)) (now (work .exit)) s r ⌝ }
 {
     let depth = s.depth - 1;
-    let f = pop_frame(&*work, records.len() / 4 + 1 + 11 * depth);
+    let f = pop_frame(&*work, records.len() / RECORD_WIDTH + 1 + FRAME_WIDTH * depth);
     let tree = s.tree;
     let g = s.children;
     let made = gathering::finish_node(work, s.low, tree.id, tree.start, tree.end, g, f.loose);
@@ -85,7 +89,7 @@ fn open_tree(records: &[u32], work: &mut [u32], s: State, node: Node, memo: scan
     let last = records::back(s.p);
     let tree = s.tree;
     let g = s.children;
-    push_frame(work, records.len() / 4 + 1 + 11 * s.depth, tree, g, memo);
+    push_frame(work, records.len() / RECORD_WIDTH + 1 + FRAME_WIDTH * s.depth, tree, g, memo);
     let children = gathering::Gathering {
         top: g.top,
         groups: 0,
@@ -166,14 +170,14 @@ fn own_at(first_repeat: u32, depth: usize, id: u32) -> cursor::InRepeat
 
 // The part stands in front of the children of the tree that is read.
 fn with_part(s: State, node: BuiltNode) -> State
-    requires { ⌜ s .children .top + 10 < 4294967296 ⌝ }
+    requires { ⌜ s .children .top + node-width < 4294967296 ⌝ }
     requires { ⌜ node .p < 4294967296 ⌝ }
     ensures { λ r. ⌜ WithPart s node r ⌝ }
 {
     let tree = s.tree;
     let g = s.children;
     let children = gathering::Gathering {
-        top: g.top + 10,
+        top: g.top + NODE_WIDTH,
         groups: g.groups,
         loose: node.node,
         edge: g.edge,

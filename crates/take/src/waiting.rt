@@ -1,14 +1,17 @@
-// The trees that wait: each has a frame of eleven words in the work slice.
+// The trees that wait: each has a frame in the work slice.
 ghost use mathlib.Core.Path.{_≡_};
 ghost use mathlib.Core.List.{[], _∷_};
 ghost use Prim.Native.Nat.{_+_, _≤_};
 ghost use lib.ListN.{length};
 ghost use Rattle.words.specs.Words.{put};
-ghost use Rattle.take.specs.Going.{frame-at};
+ghost use Rattle.take.specs.Going.{frame-at, frame-width};
 use crate::Frame;
 use crate::Node;
 
-// Eleven words from an index on.
+// How many words a frame has.
+pub const FRAME_WIDTH: usize = 11;
+
+// A frame's words from an index on.
 pub fn push_frame(
     work: &mut [u32],
     at: usize,
@@ -16,7 +19,7 @@ pub fn push_frame(
     g: gathering::Gathering,
     memo: scan::Memo,
 )
-    requires { ⌜ at + 11 ≤ length (now work) ⌝ }
+    requires { ⌜ at + frame-width ≤ length (now work) ⌝ }
     ensures { λ _. ⌜ now (work .exit) ≡ put (now (work .entry)) at (tree .id ∷ tree .start ∷ tree .end ∷ tree .floor ∷ g .groups ∷ g .loose ∷ g .edge ∷ memo .place ∷ memo .start ∷ memo .mark ∷ memo .edge ∷ []) ⌝ }
 {
     work[at] = tree.id;
@@ -34,7 +37,7 @@ pub fn push_frame(
 
 // The frame that stands from an index on.
 pub fn pop_frame(work: &[u32], at: usize) -> Frame
-    requires { ⌜ at + 11 ≤ length (now work) ⌝ }
+    requires { ⌜ at + frame-width ≤ length (now work) ⌝ }
     ensures { λ r. ⌜ r ≡ frame-at (now (work .entry)) at ⌝ }
 {
     let tree = Node {
