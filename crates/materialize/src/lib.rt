@@ -14,6 +14,7 @@ use tree::CELL_WIDTH;
 use tree::COUNT;
 use tree::FIRST;
 use tree::ID;
+use tree::KIND;
 use tree::LENGTH;
 use tree::NEXT;
 use tree::POSITION;
@@ -233,7 +234,7 @@ fn place_tree(
         trees,
         out,
         cell - 1,
-        cells[i * CELL_WIDTH],
+        cells[i * CELL_WIDTH + KIND],
         cells[i * CELL_WIDTH + ID],
         cells[i * CELL_WIDTH + POSITION],
         cells[i * CELL_WIDTH + LENGTH],
@@ -296,7 +297,7 @@ fn place_cell(
     requires { ⌜ Next (now work) (now out) (now cells) (now words) total i cell trees marks ⌝ }
     ensures { λ r. ⌜ Wrote (now (work .entry)) (now (work .exit)) (now (out .entry)) (now (out .exit)) (now (cells .entry)) (now (words .entry)) total i cell trees marks (r .cell) (r .trees) (r .marks) ⌝ }
 {
-    if cells[i * CELL_WIDTH] == 2 {
+    if cells[i * CELL_WIDTH + KIND] == 2 {
         return place_part(cells, i, words, total, work, out, cell, trees, marks);
     }
     place_tree(cells, i, total, work, out, cell, trees, marks)
@@ -339,7 +340,7 @@ fn count_cells(cells: &[u32]) -> usize
     let mut total: usize = 0;
     let mut i: usize = 0;
     while i < n {
-        total += cell_weight(cells[i * CELL_WIDTH], cells[i * CELL_WIDTH + COUNT]);
+        total += cell_weight(cells[i * CELL_WIDTH + KIND], cells[i * CELL_WIDTH + COUNT]);
         i += 1;
     }
     total
