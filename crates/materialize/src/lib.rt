@@ -5,7 +5,7 @@ ghost use mathlib.Core.List.{List, [], _∷_};
 ghost use mathlib.Core.Bool.{cond};
 ghost use lib.Dec.{ltb, eqb};
 ghost use lib.ListN.{length, getD, set};
-ghost use Rattle.words.specs.Words.{put, front, Widened};
+ghost use Rattle.words.specs.Words.{front, Widened};
 ghost use Rattle.tree.specs.Cells.{cells};
 ghost use Rattle.rules.specs.Calls.{materialise-call};
 ghost use Rattle.materialize.specs.Answer.{materialized-outcome};
@@ -18,30 +18,6 @@ use tree::KIND;
 use tree::LENGTH;
 use tree::NEXT;
 use tree::POSITION;
-
-// Seven words from an index on.
-fn put_cell(
-    out: &mut [u32],
-    at: usize,
-    kind: u32,
-    id: u32,
-    start: u32,
-    length: u32,
-    first: u32,
-    count: u32,
-    next: u32,
-)
-    requires { ⌜ at + 7 ≤ lib.ListN.length (now out) ⌝ }
-    ensures { λ _. ⌜ now (out .exit) ≡ put (now (out .entry)) at (kind ∷ id ∷ start ∷ length ∷ first ∷ count ∷ next ∷ []) ⌝ }
-{
-    out[at] = kind;
-    out[at + 1] = id;
-    out[at + 2] = start;
-    out[at + 3] = length;
-    out[at + 4] = first;
-    out[at + 5] = count;
-    out[at + 6] = next;
-}
 
 // Ends the links of the siblings that are taken: the last one of them has no next.
 fn end_links(work: &[u32], kept: usize, sp: usize, out: &mut [u32])
@@ -96,7 +72,7 @@ fn push(
     let first = first_child(cell, kept, sp);
     let next = next_sibling(&*work, kept);
     end_links(&*work, kept, sp, out);
-    put_cell(
+    tree::put_cell(
         out,
         cell * CELL_WIDTH,
         kind,
