@@ -187,13 +187,13 @@ hand-over-requires : tie.Need-hand-over-requires Inv-loop μ-loop
 hand-over-requires c κs = siblings-open (c .before .before)
 
 add-push : tie.Need-add-push Inv-loop μ-loop
-add-push c = omega (arith, cell-small (c .before .before .before .before .before .before .before .before .before .before .before .before .before .before .before .before .before))
+add-push c = omega (arith, cell-small (at (c .before .before .before .before)))
 
 mul-word-4 : tie.Need-mul-word-4 Inv-loop μ-loop
-mul-word-4 c = omega (arith, record-in (c .before .before .before .before .before .before .before .before .before .before .before .before .before .before .before .before .before))
+mul-word-4 c = omega (arith, record-in (at (c .before .before .before .before)))
 
 shared-slice-read-word-4 : tie.Need-shared-slice-read-word-4 Inv-loop μ-loop
-shared-slice-read-word-4 c = omega (arith, record-in (c .before .before .before .before .before .before .before .before .before .before .before .before .before .before .before .before .before .before))
+shared-slice-read-word-4 c = omega (arith, record-in (at (c .before .before .before .before .before)))
 
 push-requires : tie.Need-push-requires Inv-loop μ-loop
 push-requires c κs = children-taken (c .before .before .before .before .before .before)
