@@ -20,6 +20,7 @@ use tree::CELL_WIDTH;
 use tree::COUNT;
 use tree::FIRST;
 use tree::ID;
+use tree::KIND;
 use tree::LENGTH;
 use tree::NEXT;
 use tree::POSITION;
@@ -59,7 +60,7 @@ fn note_links(cells: &[u32], i: usize, work: &mut [u32])
 {
     let base = work[i];
     note(work, cells[i * CELL_WIDTH + NEXT], base);
-    if cells[i * CELL_WIDTH] == 2 {
+    if cells[i * CELL_WIDTH + KIND] == 2 {
         return;
     }
     note(
@@ -105,7 +106,7 @@ fn push_cell(cells: &[u32], i: usize, high: u32, low: u32, work: &mut [u32])
     let top = high - (i as u32 + 1) * NODE_WIDTH;
     let start = work[i] + cells[i * CELL_WIDTH + POSITION];
     let next = node_of(high, cells[i * CELL_WIDTH + NEXT]);
-    if cells[i * CELL_WIDTH] == 2 {
+    if cells[i * CELL_WIDTH + KIND] == 2 {
         store::push_part(
             work,
             top,
@@ -121,7 +122,7 @@ fn push_cell(cells: &[u32], i: usize, high: u32, low: u32, work: &mut [u32])
     store::push_tree(
         work,
         top,
-        cells[i * CELL_WIDTH],
+        cells[i * CELL_WIDTH + KIND],
         cells[i * CELL_WIDTH + ID],
         start,
         cells[i * CELL_WIDTH + LENGTH],
@@ -148,20 +149,20 @@ fn rebuild(cells: &[u32], high: u32, low: u32, work: &mut [u32]) -> Made
     requires { ⌜ length (now cells) / cell-width * 35 ≤ low ⌝ }
     ensures { λ r. ⌜ ((ws : List ℕ) → Building (now (work .entry)) (now (cells .entry)) ws (length (now (cells .entry)) / cell-width) high low 0 → Standing (now (work .exit)) (r .top) (r .node) (balanced (handed-in (now (cells .entry)) ws))) ⌝ }
 {
-    let count = cells[5];
+    let count = cells[COUNT];
     if count <= 8 {
         return Made {
             top: high,
             node: high - NODE_WIDTH,
         };
     }
-    let kids = node_of(high, cells[4]);
+    let kids = node_of(high, cells[FIRST]);
     let size = balance_core::row_size(&*work, kids, count, 3, 0);
     let own = balance_core::Parent {
         kind: 1,
-        id: cells[1],
+        id: cells[ID],
         start: 0,
-        length: cells[3],
+        length: cells[LENGTH],
     };
     balance_core::balance_range(work, high, low, kids, count, size, 3, 0, own, 0)
 }

@@ -1,12 +1,10 @@
--- Laws of a run of stores.
--- Assumes nothing.
+-- Laws of words put into a list. Assumes nothing.
 use mathlib.Core.Path.{_≡_, ap, _∙_}
-use mathlib.Core.List.{List, [], _∷_, _++_, append-assoc}
+use mathlib.Core.List.{List, _++_}
 use Prim.Native.Nat.{ℕ, _+_, _-_, _≤_, _<_}
 use native.Mathlib.Omega.{arith}
-use native.Mathlib.Numerals.{towards-suc}
-use lib.ListN.{length, getD, take, drop, set, length-append, length-drop, List·getD-append}
-use lib.Seq.{sets-eq, length-take-le, getD-take, getD-drop, getD-append-add}
+use lib.ListN.{length, getD, take, drop, length-append, length-drop, List·getD-append}
+use lib.Seq.{length-take-le, getD-take, getD-drop, getD-append-add}
 use Rattle.words.specs.Words.{put}
 
 module _ (l : List ℕ) (at : ℕ) (vs : List ℕ) (h : at + length vs ≤ length l) where
@@ -40,11 +38,3 @@ module _ (l : List ℕ) (at : ℕ) (vs : List ℕ) (h : at + length vs ≤ lengt
       ∙ getD-append-add vs (drop (at + length vs) l) i 0
       ∙ getD-drop (at + length vs) l i 0
       ∙ ap (λ (j : ℕ). getD l j 0) f
-
--- seven stores in a row
-pub put-seven : (l : List ℕ) (at a b c d e f g : ℕ) → at + 7 ≤ length l
-    → set (set (set (set (set (set (set l at a) (at + 1) b) (at + 2) c) (at + 3) d) (at + 4) e) (at + 5) f) (at + 6) g
-    ≡ put l at (a ∷ b ∷ c ∷ d ∷ e ∷ f ∷ g ∷ [])
-put-seven l at a b c d e f g m =
-    let vs : List ℕ = a ∷ b ∷ c ∷ d ∷ e ∷ f ∷ g ∷ [] in
-    simp towards-suc (simp towards-suc at (sets-eq vs l at m ∙ append-assoc (take at l) vs (drop (at + 7) l)))

@@ -5,7 +5,7 @@ ghost use mathlib.Core.List.{List, [], _∷_};
 ghost use mathlib.Core.Bool.{cond};
 ghost use lib.Dec.{ltb, eqb};
 ghost use lib.ListN.{length, getD, set};
-ghost use Rattle.words.specs.Words.{put, front, Widened, record-width};
+ghost use Rattle.words.specs.Words.{front, Widened, record-width};
 ghost use Rattle.tree.specs.Cells.{cells, cell-width, next-place};
 ghost use Rattle.rules.specs.Calls.{materialise-call};
 ghost use Rattle.materialize.specs.Answer.{materialized-outcome};
@@ -14,34 +14,11 @@ use tree::CELL_WIDTH;
 use tree::COUNT;
 use tree::FIRST;
 use tree::ID;
+use tree::KIND;
 use tree::LENGTH;
 use tree::NEXT;
 use tree::POSITION;
 use words::RECORD_WIDTH;
-
-// Seven words from an index on.
-fn put_cell(
-    out: &mut [u32],
-    at: usize,
-    kind: u32,
-    id: u32,
-    start: u32,
-    length: u32,
-    first: u32,
-    count: u32,
-    next: u32,
-)
-    requires { ⌜ at + cell-width ≤ lib.ListN.length (now out) ⌝ }
-    ensures { λ _. ⌜ now (out .exit) ≡ put (now (out .entry)) at (kind ∷ id ∷ start ∷ length ∷ first ∷ count ∷ next ∷ []) ⌝ }
-{
-    out[at] = kind;
-    out[at + 1] = id;
-    out[at + 2] = start;
-    out[at + 3] = length;
-    out[at + 4] = first;
-    out[at + 5] = count;
-    out[at + 6] = next;
-}
 
 // Ends the links of the siblings that are taken: the last one of them has no next.
 fn end_links(work: &[u32], kept: usize, sp: usize, out: &mut [u32])
@@ -96,7 +73,7 @@ fn push(
     let first = first_child(cell, kept, sp);
     let next = next_sibling(&*work, kept);
     end_links(&*work, kept, sp, out);
-    put_cell(
+    tree::put_cell(
         out,
         cell * CELL_WIDTH,
         kind,
@@ -234,7 +211,7 @@ fn place_tree(
         trees,
         out,
         cell - 1,
-        cells[i * CELL_WIDTH],
+        cells[i * CELL_WIDTH + KIND],
         cells[i * CELL_WIDTH + ID],
         cells[i * CELL_WIDTH + POSITION],
         cells[i * CELL_WIDTH + LENGTH],
@@ -297,7 +274,7 @@ fn place_cell(
     requires { ⌜ Next (now work) (now out) (now cells) (now words) total i cell trees marks ⌝ }
     ensures { λ r. ⌜ Wrote (now (work .entry)) (now (work .exit)) (now (out .entry)) (now (out .exit)) (now (cells .entry)) (now (words .entry)) total i cell trees marks (r .cell) (r .trees) (r .marks) ⌝ }
 {
-    if cells[i * CELL_WIDTH] == 2 {
+    if cells[i * CELL_WIDTH + KIND] == 2 {
         return place_part(cells, i, words, total, work, out, cell, trees, marks);
     }
     place_tree(cells, i, total, work, out, cell, trees, marks)
@@ -340,7 +317,7 @@ fn count_cells(cells: &[u32]) -> usize
     let mut total: usize = 0;
     let mut i: usize = 0;
     while i < n {
-        total += cell_weight(cells[i * CELL_WIDTH], cells[i * CELL_WIDTH + COUNT]);
+        total += cell_weight(cells[i * CELL_WIDTH + KIND], cells[i * CELL_WIDTH + COUNT]);
         i += 1;
     }
     total

@@ -40,7 +40,7 @@ module _ (l : List ℕ) (at : ℕ) (vs : List ℕ) (h : at + length vs ≤ lengt
       ∙ getD-drop (at + length vs) l i 0
       ∙ ap (λ (j : ℕ). getD l j 0) f
 
--- ten stores in a row, seven and two
+-- ten stores in a row, and two
 pub put-ten : (l : List ℕ) (at a b c d e f g h i j : ℕ) → at + 10 ≤ length l
     → set (set (set (set (set (set (set (set (set (set l at a) (at + 1) b) (at + 2) c) (at + 3) d) (at + 4) e) (at + 5) f) (at + 6) g) (at + 7) h) (at + 8) i) (at + 9) j
     ≡ put l at (a ∷ b ∷ c ∷ d ∷ e ∷ f ∷ g ∷ h ∷ i ∷ j ∷ [])
@@ -48,13 +48,6 @@ put-ten l at a b c d e f g h i j m =
     let vs : List ℕ = a ∷ b ∷ c ∷ d ∷ e ∷ f ∷ g ∷ h ∷ i ∷ j ∷ [] in
     let nine : at + 9 ≡ suc (suc (suc (suc (suc (suc (suc (suc (suc at)))))))) = omega arith in
     rw nine (simp towards-suc (sets-eq vs l at m ∙ append-assoc (take at l) vs (drop (at + 10) l)))
-
-pub put-seven : (l : List ℕ) (at a b c d e f g : ℕ) → at + 7 ≤ length l
-    → set (set (set (set (set (set (set l at a) (at + 1) b) (at + 2) c) (at + 3) d) (at + 4) e) (at + 5) f) (at + 6) g
-    ≡ put l at (a ∷ b ∷ c ∷ d ∷ e ∷ f ∷ g ∷ [])
-put-seven l at a b c d e f g m =
-    let vs : List ℕ = a ∷ b ∷ c ∷ d ∷ e ∷ f ∷ g ∷ [] in
-    simp towards-suc (simp towards-suc at (sets-eq vs l at m ∙ append-assoc (take at l) vs (drop (at + 7) l)))
 
 pub put-two : (l : List ℕ) (at a b : ℕ) → at + 2 ≤ length l → set (set l at a) (at + 1) b ≡ put l at (a ∷ b ∷ [])
 put-two l at a b m =

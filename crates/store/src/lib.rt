@@ -222,30 +222,6 @@ fn link(node: u32, number: usize) -> u32
     number as u32
 }
 
-// Seven words from an index on.
-fn put_cell(
-    out: &mut [u32],
-    at: usize,
-    kind: u32,
-    id: u32,
-    start: u32,
-    length: u32,
-    first: u32,
-    count: u32,
-    next: u32,
-)
-    requires { ⌜ at + cell-width ≤ lib.ListN.length (now out) ⌝ }
-    ensures { λ _. ⌜ now (out .exit) ≡ put (now (out .entry)) at (kind ∷ id ∷ start ∷ length ∷ first ∷ count ∷ next ∷ []) ⌝ }
-{
-    out[at] = kind;
-    out[at + 1] = id;
-    out[at + 2] = start;
-    out[at + 3] = length;
-    out[at + 4] = first;
-    out[at + 5] = count;
-    out[at + 6] = next;
-}
-
 // Copies words of 16 bits that stand in words of 32.
 fn copy_words(work: &[u32], from: usize, count: usize, out: &mut [u16], at: usize)
     requires { ⌜ from + count ≤ length (now work) ⌝ }
@@ -274,7 +250,7 @@ fn write_tree(work: &[u32], n: usize, from: u32, out: &mut [u32], cell: usize)
     let count = tell(work, kids, NODE_TREES);
     let next = link(work[n + NODE_NEXT], cell + 2 + words::index(below));
     let start = words::less(work[n + NODE_START], from);
-    put_cell(
+    tree::put_cell(
         out,
         cell * CELL_WIDTH,
         work[n + NODE_KIND],
@@ -304,7 +280,7 @@ fn write_part(
     copy_words(work, words::index(work[n + NODE_FIRST]), count, words, word);
     let next = link(work[n + NODE_NEXT], cell + 2);
     let start = words::less(work[n + NODE_START], from);
-    put_cell(
+    tree::put_cell(
         out,
         cell * CELL_WIDTH,
         2,

@@ -32,3 +32,4 @@ pub mod PartLaws
 pub mod PartReadBack
 pub mod BalancedLaws
 pub mod RunLaws
+pub mod Stores

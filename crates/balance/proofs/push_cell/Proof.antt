@@ -1,53 +1,121 @@
 -- `balance::push_cell` meets its contract: one node more, of a part or of a tree. Assumes nothing.
+use Rattle.balance.specs.Steps.{Building, address}
 use Rattle.balance.proofs.Pushing.{start-fits, next-in, address-readable, words-fit, first-in, pushed-part, pushed-tree}
-use Prim.Native.Nat.{_/_, _+_, _-_, _*_}
-use mathlib.Core.Path.{refl}
+use Rattle.store.specs.Store.{Readable}
+use Prim.Native.Nat.{ℕ, _/_, _+_, _-_, _*_, _≤_, _<_}
+use mathlib.Core.List.{List}
+use mathlib.Core.Path.{_≡_, refl}
 use lib.ListN.{length, getD}
 use denote.Ref.{now}
+use native.Mathlib.Nat.{add-zero}
 use native.Mathlib.Omega.{arith}
 use borrow.Author.Needs.{needs}
 use Rattle.balance.proofs.push_cell.Statement.{statement}
 use Rattle.balance.proofs.push_cell.Tie as tie
 
+-- what is known from the start on
+module _ (z : tie.Start) where
+  abbrev held : List ℕ
+  held = now (z .args .work)
+
+  abbrev cs : List ℕ
+  cs = now (z .args .cells)
+
+  abbrev ws : List ℕ
+  ws = z .pre .1 .0
+
+  abbrev n : ℕ
+  n = length cs / 7
+
+  abbrev high : ℕ
+  high = z .args .high
+
+  abbrev low : ℕ
+  low = z .args .low
+
+  abbrev i : ℕ
+  i = z .args .i
+
+  abbrev at : i < n
+  at = z .pre .0
+
+  abbrev building : Building held cs ws n high low (i + 1)
+  building = z .pre .1 .1
+
+  start-small : getD held i 0 + getD cs (i * 7 + 2) 0 ≤ 4294967295
+  start-small = start-fits held cs ws n high low i at building
+
+  next-named : getD cs (i * 7 + 6) 0 ≤ n
+  next-named = next-in held cs ws n high low i at building
+
+  next-small : getD cs (i * 7 + 6) 0 * 10 ≤ high
+  next-small = omega (arith, next-named, building .high-is)
+
+  readable : (x : ℕ) → x ≤ n → Readable held (address high x)
+  readable = address-readable held cs ws n high low i at building
+
+  room : high - (i + 1) * 10 + 10 ≤ length held
+  room = omega (arith, at, building .high-is, building .under, building .inside)
+
+  words-small : getD cs (i * 7) 0 ≡ 2 → low + getD cs (i * 7 + 4) 0 ≤ 4294967295
+  words-small = words-fit held cs ws n high low i at building
+
+  first-named : (getD cs (i * 7) 0 ≡ 2 → ⊥) → getD cs (i * 7 + 4) 0 ≤ n
+  first-named = first-in held cs ws n high low i at building
+
 add-start-2 : tie.Need-add-start-2
-add-start-2 c =
-    let z = c .before .before .before .before in
-    omega (arith, start-fits (now (z .args .work)) (now (z .args .cells)) (z .pre .1 .0) (length (now (z .args .cells)) / 7) (z .args .high) (z .args .low) (z .args .i) (z .pre .0) (z .pre .1 .1))
+add-start-2 c = omega (arith, start-small (c .before .before .before .before))
 
 node-of-requires : tie.Need-node-of-requires
-node-of-requires c κs =
-    let z = c .before .before .before .before .before in
-    omega (arith, next-in (now (z .args .work)) (now (z .args .cells)) (z .pre .1 .0) (length (now (z .args .cells)) / 7) (z .args .high) (z .args .low) (z .args .i) (z .pre .0) (z .pre .1 .1), z .pre .1 .1 .high-is)
+node-of-requires c κs = omega (arith, next-small (c .before .before .before .before .before))
 
 add-push-part-3 : tie.Need-add-push-part-3
 add-push-part-3 c =
-    let z = c .before .before .before .before .before .before .before .before .before .before .before in
-    omega (arith, words-fit (now (z .args .work)) (now (z .args .cells)) (z .pre .1 .0) (length (now (z .args .cells)) / 7) (z .args .high) (z .args .low) (z .args .i) (z .pre .0) (z .pre .1 .1) (c .before .before .before .if1 .taken))
+    let is-part = simp add-zero at (c .before .before .before .if1 .taken) in
+    omega (arith, words-small (c .before .before .before .before .before .before .before .before .before .before .before) is-part)
 
 push-part-requires : tie.Need-push-part-requires
 push-part-requires c κs =
     let z = c .before .before .before .before .before .before .before .before .before .before .before .before in
-    (omega (arith, z .pre .0, z .pre .1 .1 .high-is, z .pre .1 .1 .under, z .pre .1 .1 .inside), rw (c .before .before .before .before .before .before .node-of .ensures) (address-readable (now (z .args .work)) (now (z .args .cells)) (z .pre .1 .0) (length (now (z .args .cells)) / 7) (z .args .high) (z .args .low) (z .args .i) (z .pre .0) (z .pre .1 .1) (getD (now (z .args .cells)) (z .args .i * 7 + 6) 0) (next-in (now (z .args .work)) (now (z .args .cells)) (z .pre .1 .0) (length (now (z .args .cells)) / 7) (z .args .high) (z .args .low) (z .args .i) (z .pre .0) (z .pre .1 .1))))
+    (room z, rw (c .before .before .before .before .before .before .node-of .ensures) (readable z (getD (cs z) (i z * 7 + 6) 0) (next-named z)))
 
 returns : tie.Need-returns
 returns c =
     let z = c .before .before .before .before .before .before .before .before .before .before .before .before .before .before .before in
-    λ ws b. pushed-part (now (z .args .work)) (now (z .args .cells)) ws (length (now (z .args .cells)) / 7) (z .args .high) (z .args .low) (z .args .i) (z .pre .0) b (c .before .before .push-part .last .0) (z .args .high - (z .args .i + 1) * 10) (getD (now (z .args .work)) (z .args .i) 0 + getD (now (z .args .cells)) (z .args .i * 7 + 2) 0) (c .before .before .push-part .result) refl refl (c .before .before .before .before .before .before .before .before .before .node-of .result) (c .before .before .before .before .before .before .before .before .before .node-of .ensures) (c .before .before .before .before .before .before .before .if1 .taken) (z .args .low + getD (now (z .args .cells)) (z .args .i * 7 + 4) 0) refl (c .before .before .push-part .ensures)
+    let next = c .before .before .before .before .before .before .before .before .before in
+    let pushed = c .before .before in
+    let is-part = simp add-zero at (c .before .before .before .before .before .before .before .if1 .taken) in
+    λ ws b. pushed-part (held z) (cs z) ws (n z) (high z) (low z) (i z) (at z) b (pushed .push-part .last .0) (high z - (i z + 1) * 10)
+    (getD (held z) (i z) 0 + getD (cs z) (i z * 7 + 2) 0) (pushed .push-part .result) refl refl (next .node-of .result) (next .node-of .ensures)
+    is-part (low z + getD (cs z) (i z * 7 + 4) 0) refl (pushed .push-part .ensures)
 
 node-of-requires-2 : tie.Need-node-of-requires-2
 node-of-requires-2 c κs =
     let z = c .before .before .before .before .before .before .before .before .before in
-    omega (arith, first-in (now (z .args .work)) (now (z .args .cells)) (z .pre .1 .0) (length (now (z .args .cells)) / 7) (z .args .high) (z .args .low) (z .args .i) (z .pre .0) (z .pre .1 .1) (c .before .if1 .left), z .pre .1 .1 .high-is)
+    let no-part = simp add-zero at (c .before .if1 .left) in
+    omega (arith, first-named z no-part, building z .high-is)
 
 push-tree-requires : tie.Need-push-tree-requires
 push-tree-requires c κs =
     let z = c .before .before .before .before .before .before .before .before .before .before .before .before .before .before in
-    (omega (arith, z .pre .0, z .pre .1 .1 .high-is, z .pre .1 .1 .under, z .pre .1 .1 .inside), (rw (c .before .before .before .before .node-of2 .ensures) (address-readable (now (z .args .work)) (now (z .args .cells)) (z .pre .1 .0) (length (now (z .args .cells)) / 7) (z .args .high) (z .args .low) (z .args .i) (z .pre .0) (z .pre .1 .1) (getD (now (z .args .cells)) (z .args .i * 7 + 4) 0) (first-in (now (z .args .work)) (now (z .args .cells)) (z .pre .1 .0) (length (now (z .args .cells)) / 7) (z .args .high) (z .args .low) (z .args .i) (z .pre .0) (z .pre .1 .1) (c .before .before .before .before .before .before .if1 .left))), rw (c .before .before .before .before .before .before .before .before .node-of .ensures) (address-readable (now (z .args .work)) (now (z .args .cells)) (z .pre .1 .0) (length (now (z .args .cells)) / 7) (z .args .high) (z .args .low) (z .args .i) (z .pre .0) (z .pre .1 .1) (getD (now (z .args .cells)) (z .args .i * 7 + 6) 0) (next-in (now (z .args .work)) (now (z .args .cells)) (z .pre .1 .0) (length (now (z .args .cells)) / 7) (z .args .high) (z .args .low) (z .args .i) (z .pre .0) (z .pre .1 .1)))))
+    let no-part = simp add-zero at (c .before .before .before .before .before .before .if1 .left) in (
+      room z,
+      (
+        rw (c .before .before .before .before .node-of2 .ensures) (readable z (getD (cs z) (i z * 7 + 4) 0) (first-named z no-part)),
+        rw (c .before .before .before .before .before .before .before .before .node-of .ensures) (readable z (getD (cs z) (i z * 7 + 6) 0) (next-named z)),
+      ),
+    )
 
 returns-2 : tie.Need-returns-2
 returns-2 c =
     let z = c .before .before .before .before .before .before .before .before .before .before .before .before .before .before .before .before .before in
-    λ ws b. pushed-tree (now (z .args .work)) (now (z .args .cells)) ws (length (now (z .args .cells)) / 7) (z .args .high) (z .args .low) (z .args .i) (z .pre .0) b (c .before .before .push-tree .last .0) (z .args .high - (z .args .i + 1) * 10) (getD (now (z .args .work)) (z .args .i) 0 + getD (now (z .args .cells)) (z .args .i * 7 + 2) 0) (c .before .before .push-tree .result) refl refl (c .before .before .before .before .before .before .before .before .before .before .before .node-of .result) (c .before .before .before .before .before .before .before .before .before .before .before .node-of .ensures) (c .before .before .before .before .before .before .before .before .before .if1 .left) (c .before .before .before .before .before .before .before .node-of2 .result) (c .before .before .before .before .before .before .before .node-of2 .ensures) (c .before .before .push-tree .ensures)
+    let next = c .before .before .before .before .before .before .before .before .before .before .before in
+    let first = c .before .before .before .before .before .before .before in
+    let pushed = c .before .before in
+    let no-part = simp add-zero at (c .before .before .before .before .before .before .before .before .before .if1 .left) in
+    λ ws b. pushed-tree (held z) (cs z) ws (n z) (high z) (low z) (i z) (at z) b (pushed .push-tree .last .0) (high z - (i z + 1) * 10)
+    (getD (held z) (i z) 0 + getD (cs z) (i z * 7 + 2) 0) (pushed .push-tree .result) refl refl (next .node-of .result) (next .node-of .ensures)
+    no-part (first .node-of2 .result) (first .node-of2 .ensures) (simp add-zero at (pushed .push-tree .ensures))
 
 pub push-cell-spec : {M : Type 1} → statement M
 push-cell-spec =
@@ -80,6 +148,7 @@ push-cell-spec =
     (λ c. search needs)
     (λ c. search needs)
     (λ c. search needs)
+    (λ c. search needs)
     add-push-part-3
     (λ c. search needs)
     (λ c. search needs)
@@ -93,6 +162,7 @@ push-cell-spec =
     (λ c. search needs)
     (λ c. search needs)
     node-of-requires-2
+    (λ c. search needs)
     (λ c. search needs)
     (λ c. search needs)
     (λ c. search needs)

@@ -1,7 +1,9 @@
 -- `materialize::count_cells` meets its contract: the invariant: the sum is what comes of the cells passed. Assumes nothing.
+use native.Mathlib.Nat.{add-zero}
 use native.Mathlib.Omega.{arith}
-use lib.ListN.{length}
-use Prim.Native.Nat.{ℕ, _+_, _-_, _/_, _≤_}
+use lib.ListN.{length, getD}
+use Prim.Native.Nat.{ℕ, _+_, _-_, _*_, _/_, _≤_}
+use mathlib.Core.List.{List}
 use mathlib.Core.Path.{_≡_, refl, ap, _∙_}
 use denote.Ref.{now}
 use Rattle.materialize.specs.Steps.{cells-before}
@@ -20,17 +22,35 @@ loop-holds : tie.Need-loop-holds Inv-loop μ-loop
 unfolding cells-before
 loop-holds c = (omega arith, refl)
 
+-- one cell more
+module _ (c : tie.After-cell-weight Inv-loop μ-loop) where
+  abbrev cs : List ℕ
+  cs = now (c .before .before .before .before .before .before .args .cells)
+
+  abbrev i : ℕ
+  i = c .before .before .before .before .loop .i
+
+  sum : c .before .before .before .before .loop .total + c .cell-weight .result ≡ cells-before cs (i + 1)
+  sum =
+      let weighed = simp add-zero at (c .cell-weight .ensures) in
+      omega (arith, c .before .before .before .before .loop .inv .1, weighed, before-more cs i)
+
 add-total : tie.Need-add-total Inv-loop μ-loop
-add-total c = omega (arith, c .before .before .before .before .loop .inv .1, c .cell-weight .ensures, before-more (now (c .before .before .before .before .before .before .args .cells)) (c .before .before .before .before .loop .i), before-mono (now (c .before .before .before .before .before .before .args .cells)) (c .before .before .before .before .loop .i + 1) (length (now (c .before .before .before .before .before .before .args .cells)) / 7) (omega (arith, c .before .before .before .loop-test .taken)), c .before .before .before .before .before .before .pre)
+add-total c =
+    let n = length (cs c) / 7 in
+    omega (arith, sum c, before-mono (cs c) (i c + 1) n (omega (arith, c .before .before .before .loop-test .taken)), c .before .before .before .before .before .before .pre)
 
 loop-less : tie.Need-loop-less Inv-loop μ-loop
 loop-less c = omega (arith, c .before .before .before .loop-test .taken)
 
 loop-again : tie.Need-loop-again Inv-loop μ-loop
-loop-again c = (omega (arith, c .before .before .before .loop-test .taken), omega (arith, c .before .before .before .before .loop .inv .1, c .cell-weight .ensures, before-more (now (c .before .before .before .before .before .before .args .cells)) (c .before .before .before .before .loop .i)))
+loop-again c = (omega (arith, c .before .before .before .loop-test .taken), sum c)
 
 returns : tie.Need-returns Inv-loop μ-loop
-returns c = let e : c .before .loop .i ≡ length (now (c .before .before .before .args .cells)) / 7 = omega (arith, c .before .loop .inv .0, c .loop-test .left) in c .before .loop .inv .1 ∙ ap (λ (k : ℕ). cells-before (now (c .before .before .before .args .cells)) k) e
+returns c =
+    let z = c .before .before .before in
+    let e : c .before .loop .i ≡ length (now (z .args .cells)) / 7 = omega (arith, c .before .loop .inv .0, c .loop-test .left) in
+    c .before .loop .inv .1 ∙ ap (λ (k : ℕ). cells-before (now (z .args .cells)) k) e
 
 pub count-cells-spec : {M : Type 1} → statement M
 count-cells-spec =
@@ -39,6 +59,7 @@ count-cells-spec =
     Inv-loop
     μ-loop
     loop-holds
+    (λ c. search needs)
     (λ c. search needs)
     (λ c. search needs)
     (λ c. search needs)

@@ -28,16 +28,27 @@ slice-aggregate-narrow : tie.Need-slice-aggregate-narrow
 slice-aggregate-narrow c = sym (length-take-le _ _ (c .before .before .before .before .before .before .before .before .before .before .pre .1))
 
 narrow-requires : tie.Need-narrow-requires
-narrow-requires c κs = first-ones (c .before .before .before .before .before .before .before .before .before .before .before .args .head) (c .before .before .before .before .before .before .before .before .before .before .before .args .given .now) (c .before .before .before .before .before .before .before .before .before .before .before .args .numbers .now) (omega (arith, c .before .before .before .before .if1 .left))
+narrow-requires c κs =
+    let e = c .before .before .before .before in
+    let a = e .before .before .before .before .before .before .before .args in
+    first-ones (a .head) (a .given .now) (a .numbers .now) (omega (arith, e .if1 .left))
 
 slice-aggregate-held : tie.Need-slice-aggregate-held
 slice-aggregate-held c = sym (length-take-le _ _ (omega arith))
 
 narrow-packed-requires : tie.Need-narrow-packed-requires
-narrow-packed-requires c κs = other-ones (c .before .before .before .before .before .before .before .before .before .before .before .before .before .before .before .before .before .before .args .head) (c .before .before .before .before .before .before .before .before .before .before .before .before .before .before .before .before .before .before .args .given .now) (c .before .before .before .before .before .before .before .before .before .before .before .before .before .before .before .before .before .before .args .words .now) (omega (arith, c .before .before .before .before .before .before .before .before .before .before .if2 .left))
+narrow-packed-requires c κs =
+    let e = c .before .before .before .before .before .before .before .before .before .before in
+    let a = e .before .before .before .before .before .before .before .before .args in
+    other-ones (a .head) (a .given .now) (a .words .now) (omega (arith, e .if2 .left))
 
 answer-any-requires : tie.Need-answer-any-requires
-answer-any-requires c κs = kept-ones (c .before .before .before .before .before .before .before .before .before .before .before .before .before .before .before .before .before .before .before .before .before .before .before .before .before .before .before .args .head) (c .before .before .before .before .before .before .before .before .before .before .before .before .before .before .before .before .before .before .before .before .before .before .before .before .before .before .before .args .numbers .now) (c .before .before .before .before .before .before .before .before .before .before .before .before .before .before .before .narrow .last .1 .0) (c .before .before .before .before .before .before .before .before .before .before .before .before .before .before .before .before .before .before .before .before .before .before .before .before .before .before .before .pre .0) (omega (arith, c .before .before .before .before .before .before .before .before .before .before .before .before .before .before .before .before .before .before .before .before .if1 .left)) (c .before .before .before .before .before .before .before .before .before .before .before .before .before .before .before .narrow .kept .1 .0)
+answer-any-requires c κs =
+    let n = c .before .before .before .before .before .before .before .before .before .before .before .before .before .before .before in
+    let e = n .before .before .before .before .before in
+    let z = e .before .before .before .before .before .before .before in
+    let a = z .args in
+    kept-ones (a .head) (a .numbers .now) (n .narrow .last .1 .0) (z .pre .0) (omega (arith, e .if1 .left)) (n .narrow .kept .1 .0)
 
 pub answer-split-spec : {M : Type 1} → statement M
 answer-split-spec =
