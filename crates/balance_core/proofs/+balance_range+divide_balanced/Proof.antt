@@ -252,7 +252,7 @@ divide-balanced-loop-again t c = λ w p h.
       stacked (groups (p .type) (s₂ t e .args .m) (kids-of (x .0))) (x .1),
       a₂ t e .loop .inv w p h .1,
       L.dividing-inner p (x .2) (e .group-at .ensures) (lone .if1 .taken) (above-share .if2 .taken) (kids-read .word-at .ensures)
-      (counted .tell .ensures) (pushed .push-groups2 .ensures),
+          (counted .tell .ensures) (pushed .push-groups2 .ensures),
     )
 
 divide-balanced-copy-requires : (t : ℕ)
@@ -322,7 +322,7 @@ divide-balanced-loop-again-3 t c = λ w p h.
       x .1,
       balance (p .type) (p .type) (start-read .word-at2 .result) (measured .less .result) (x .0) ⊕ a₂ t e .loop .inv w p h .1,
       L.dividing-many p (x .2) (e .group-at .ensures) (several .if1 .left) (start-read .word-at2 .ensures) (measured .less .ensures)
-      (made .balance-range .ensures),
+          (made .balance-range .ensures),
     )
 
 divide-balanced-same-length : (t : ℕ)
