@@ -71,7 +71,7 @@ module _ {w : List ℕ} {node k kd i : ℕ} (m : ℕ) (p : Row w node k kd i) wh
   abbrev Started : (size end next : ℕ) → Type 0
   Started size end next = (first : Trees) × (rest : Trees) × Growing 1 size next end first rest
 
-  start-at : (us : Trees) (size end next : ℕ) → 1 ≤ k → p .us ≡ us → Holds w (p .base) (p .top) (p .low) node (us ⊕ p .tail) 
+  start-at : (us : Trees) (size end next : ℕ) → 1 ≤ k → p .us ≡ us → Holds w (p .base) (p .top) (p .low) node (us ⊕ p .tail)
       → total (p .type) us < 4294967295 → Ends us → siblings us ≡ k
       → groups (p .type) m (p .us) ≡ groups (p .type) m us
       → size ≡ sized w node (kind (p .type)) (id-word (p .type)) → end ≡ word (getD w (node + 2) 0 + getD w (node + 3) 0) → next ≡ getD w (node + 5) 0 → Started size end next
