@@ -19,7 +19,8 @@ use Rattle.balance_core.specs.Ready.{CopyReady, Copied, DivideReady, Div
 use Rattle.balance_core.proofs.Lists.{siblings-⊕, siblings-total}
 use Rattle.balance_core.proofs.Copies.{inside-node}
 use Rattle.balance_core.proofs.Placing.{one-lone, many-lone, placed-kept, placed-inner, placed-several, kids-ends, kids-held, start-held}
-use Rattle.balance_core.proofs.Stack.{unwound, unwound-stacked, unwound-none, unwound-step, weight, weight-none, weight-more, weight-stacked, weight-groups, length-stacked, pending-deep, pending-some, pending-frame}
+use Rattle.balance_core.proofs.Stack.{unwound, unwound-stacked, unwound-none, unwound-step, pending-deep, pending-some, pending-frame}
+use Rattle.balance_core.proofs.Stack.{weight, weight-none, weight-more, weight-stacked, weight-groups, length-stacked}
 
 module _ {w₀ : List ℕ} {top₀ stack node k kd i m size next : ℕ} (p : DivideReady w₀ top₀ stack node k kd i m size next) where
   abbrev f : Trees → Trees
@@ -271,7 +272,8 @@ module _ {w₀ : List ℕ} {top₀ stack node k kd i m size next : ℕ} (p : Div
             let fs : first-start g ≡ start = start-held w (p .base) high (p .low) first g (d .waits .tail) (d .waits .some) held ∙ sym es in
             let fl : last-end 0 g - first-start g ≡ len = omega (arith, end-is, fs, el) in
             let eq : balance (p .type) (p .type) start len g ≡ f g =
-            sym (placed-several (p .type) m g (omega (arith, count-is, several o)) ∙ ap (λ (x : ℕ). balance (p .type) (p .type) (first-start g) x g) fl ∙ ap (λ (x : ℕ). balance (p .type) (p .type) x len g) fs) in
+            sym (placed-several (p .type) m g (omega (arith, count-is, several o))
+            ∙ ap (λ (x : ℕ). balance (p .type) (p .type) (first-start g) x g) fl ∙ ap (λ (x : ℕ). balance (p .type) (p .type) x len g) fs) in
             placed-one w′ rtop rnode (c .grown) (c .kept) (balance (p .type) (p .type) start len g) (c .used-many (several o)) eq (c .holds many-ready)
 
       -- a lone child above the share
@@ -321,13 +323,15 @@ module _ {w₀ : List ℕ} {top₀ stack node k kd i m size next : ℕ} (p : Div
                 let inner : List Trees = groups (p .type) m (kids-of g) in
                 let above = h .above kids-ready in
                 let s : Same w w′ 0 high (sp + 4) = same-less w w′ 0 sp′ (sp + 4) 0 high (sp + 4) (omega arith) above (omega arith) (h .kept) in
+                let s-low : Same w w′ (p .base) high (p .low) = same-less w w′ 0 high (sp + 4) (p .base) high (p .low) (omega arith) (omega arith) low-sp s in
                 let some = some-group (p .type) m (kids-of g) (omega (arith, kids-size, l, pos)) in
+                let inner-is = placed-inner (p .type) m g (count-is ∙ o) (omega (arith, sum-is)) pos in
                 record {
                   kept = still w′ high done (omega arith) s ts;
                   grown = d .grown;
                   waits = h .waits kids-ready;
-                  onto = frame w w′ (p .base) high (p .low) high (p .low) (omega arith) (omega arith) (same-less w w′ 0 high (sp + 4) (p .base) high (p .low) (omega arith) (omega arith) low-sp s) done ts (d .onto);
-                  whole = unwound-stacked f inner gs ts ∙ ap (λ (x : Trees). unwound f gs (x ⊕ ts)) (sym (placed-inner (p .type) m g (count-is ∙ o) (omega (arith, sum-is)) pos)) ∙ sym (unwound-step f g gs ts) ∙ d .whole;
+                  onto = frame w w′ (p .base) high (p .low) high (p .low) (omega arith) (omega arith) s-low done ts (d .onto);
+                  whole = unwound-stacked f inner gs ts ∙ ap (λ (x : Trees). unwound f gs (x ⊕ ts)) (sym inner-is) ∙ sym (unwound-step f g gs ts) ∙ d .whole;
                   left-is = omega (arith, weight-stacked (p .type) inner gs, weight-groups (p .type) m (kids-of g), weights, kids-size, sum-is);
                   less = omega (arith, d .less);
                   used = omega (arith, d .used, length-stacked inner gs, some, sum-le, sum-some);
