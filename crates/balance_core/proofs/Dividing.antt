@@ -19,9 +19,10 @@ use Rattle.balance_core.specs.Ready.{CopyReady, Copied, DivideReady, Div
 use Rattle.balance_core.proofs.Lists.{siblings-⊕, siblings-total}
 use Rattle.balance_core.proofs.Copies.{inside-node}
 use Rattle.balance_core.proofs.Placing.{one-lone, many-lone, placed-kept, placed-inner, placed-several, kids-ends, kids-held, start-held}
-use Rattle.balance_core.proofs.Stack.{unwound, unwound-stacked, unwound-none, unwound-step, weight, weight-none, weight-more, weight-stacked, weight-groups, length-stacked, pending-deep, pending-some, pending-frame}
+use Rattle.balance_core.proofs.Stack.{unwound, unwound-stacked, unwound-none, unwound-step, pending-deep, pending-some, pending-frame}
+use Rattle.balance_core.proofs.Stack.{weight, weight-none, weight-more, weight-stacked, weight-groups, length-stacked}
 
-module _ (w₀ : List ℕ) (top₀ stack node k kd i m size next : ℕ) (p : DivideReady w₀ top₀ stack node k kd i m size next) where
+module _ {w₀ : List ℕ} {top₀ stack node k kd i m size next : ℕ} (p : DivideReady w₀ top₀ stack node k kd i m size next) where
   abbrev f : Trees → Trees
   f g = placed (divided-by (p .type)) (p .type) m g
 
@@ -76,8 +77,8 @@ module _ (w₀ : List ℕ) (top₀ stack node k kd i m size next : ℕ) (p : Div
     pending = refl;
   }
 
-  pub dividing-start : (w : List ℕ) (sp : ℕ) → Pushed w₀ w stack node k kd i m sp → Dividing w top₀ next size sp (stacked (groups (p .type) m (p .us)) []) (p .rest)
-  dividing-start w sp h =
+  pub dividing-start : {w : List ℕ} {sp : ℕ} → Pushed w₀ w stack node k kd i m sp → Dividing w top₀ next size sp (stacked (groups (p .type) m (p .us)) []) (p .rest)
+  dividing-start {w} {sp} h =
       let gs : List Trees = groups (p .type) m (p .us) in
       let above = h .above first-ready in
       let s : Same w₀ w (p .base) top₀ (p .low) = same-less w₀ w 0 sp stack (p .base) top₀ (p .low) (omega arith) above (p .under) (h .kept) in
@@ -94,22 +95,23 @@ module _ (w₀ : List ℕ) (top₀ stack node k kd i m size next : ℕ) (p : Div
       }
 
   -- nothing waits
-  pub dividing-end : (w : List ℕ) (high done left sp : ℕ) (gs : List Trees) (ts : Trees) → Dividing w high done left sp gs ts → left ≤ 0
+  pub dividing-end : {w : List ℕ} {high done left sp : ℕ} {gs : List Trees} {ts : Trees} → Dividing w high done left sp gs ts → left ≤ 0
       → Holds w (p .base) high (p .low) done (divide (suc (total (p .type) (p .us))) (p .type) m (p .us) ⊕ p .rest)
   unfolding divided-by
-  dividing-end w high done left sp [] ts d z = rw (sym (unwound-none f ts) ∙ d .whole) at (d .onto)
-  dividing-end w high done left sp (g ∷ gs) ts d z = absurd (omega (arith, d .left-is, pending-some w (p .base) high (p .low) (p .type) m sp stack (g ∷ gs) (d .waits)))
+  dividing-end {gs = []} {ts = ts} d z = rw (sym (unwound-none f ts) ∙ d .whole) at (d .onto)
+  dividing-end {w = w} {high = high} {sp = sp} {gs = g ∷ gs} d z =
+      absurd (omega (arith, d .left-is, pending-some w (p .base) high (p .low) (p .type) m sp stack (g ∷ gs) (d .waits)))
 
-  end-used : (w : List ℕ) (high done left sp : ℕ) (gs : List Trees) (ts : Trees) → Dividing w high done left sp gs ts → left ≤ 0
+  end-used : {w : List ℕ} {high done left sp : ℕ} {gs : List Trees} {ts : Trees} → Dividing w high done left sp gs ts → left ≤ 0
       → high + 10 * length (groups (p .type) m (p .us)) ≤ top₀ + 20 * size
-  end-used w high done left sp gs ts d z = omega (arith, d .used, d .left-is, pending-some w (p .base) high (p .low) (p .type) m sp stack gs (d .waits))
+  end-used {w} {high} {done} {left} {sp} {gs} d z = omega (arith, d .used, d .left-is, pending-some w (p .base) high (p .low) (p .type) m sp stack gs (d .waits))
 
   -- so the room is as promised
-  pub divided-all : (w : List ℕ) (high done left sp : ℕ) (gs : List Trees) (ts : Trees) → Dividing w high done left sp gs ts → left ≤ 0
+  pub divided-all : {w : List ℕ} {high done left sp : ℕ} {gs : List Trees} {ts : Trees} → Dividing w high done left sp gs ts → left ≤ 0
       → ((q : DivideReady w₀ top₀ stack node k kd i m size next) → Holds w (q .base) high (q .low) done (divide (suc (total (q .type) (q .us))) (q .type) m (q .us) ⊕ q .rest))
       → Divided w₀ w top₀ stack node k kd i m size next high done
-  divided-all w high done left sp gs ts d z all =
-      let u = end-used w high done left sp gs ts d z in
+  divided-all d z all =
+      let u = end-used d z in
       record {
         grown = d .grown;
         kept = d .kept;
@@ -119,13 +121,13 @@ module _ (w₀ : List ℕ) (top₀ stack node k kd i m size next : ℕ) (p : Div
       }
 
   -- something waits
-  pub dividing-some : (w : List ℕ) (high done left sp : ℕ) (gs : List Trees) (ts : Trees) → Dividing w high done left sp gs ts → 0 < left
+  pub dividing-some : {w : List ℕ} {high done left sp : ℕ} {gs : List Trees} {ts : Trees} → Dividing w high done left sp gs ts → 0 < left
       → (g : Trees) × (below : List Trees) × Dividing w high done left sp (g ∷ below) ts
-  dividing-some w high done left sp [] ts d pos = absurd (omega (arith, d .left-is, weight-none (p .type)))
-  dividing-some w high done left sp (g ∷ gs) ts d pos = (g, gs, d)
+  dividing-some {gs = []} d pos = absurd (omega (arith, d .left-is, weight-none (p .type)))
+  dividing-some {gs = g ∷ gs} d pos = (g, gs, d)
 
   -- at a group
-  module _ (w : List ℕ) (high done left sp : ℕ) (g : Trees) (gs : List Trees) (ts : Trees) (d : Dividing w high done left sp (g ∷ gs) ts) where
+  module _ {w : List ℕ} {high done left sp : ℕ} {g : Trees} {gs : List Trees} {ts : Trees} (d : Dividing w high done left sp (g ∷ gs) ts) where
     pub deep : sp + 4 ≤ stack
     deep = d .waits .deep
 
@@ -147,7 +149,7 @@ module _ (w₀ : List ℕ) (top₀ stack node k kd i m size next : ℕ) (p : Div
     pub fits-sp : sp + 4 ≤ 4294967295
     fits-sp = omega (arith, deep, p .under, p .fits)
 
-    module _ (first count sum end : ℕ) (e : GroupAt w sp first count sum end) where
+    module _ {first count sum end : ℕ} (e : GroupAt w sp first count sum end) where
       pub count-is : siblings g ≡ count
       count-is = d .waits .counted ∙ sym (e .count-is)
 
@@ -224,8 +226,8 @@ module _ (w₀ : List ℕ) (top₀ stack node k kd i m size next : ℕ) (p : Div
           onto = d .onto;
         }
 
-        pub dividing-kept : (w′ : List ℕ) (rtop rnode : ℕ) → Copied w w′ high first done rtop rnode → Dividing w′ rtop rnode (left - sum) (sp + 4) gs (g ⊕ ts)
-        dividing-kept w′ rtop rnode c =
+        pub dividing-kept : {w′ : List ℕ} {rtop rnode : ℕ} → Copied w w′ high first done rtop rnode → Dividing w′ rtop rnode (left - sum) (sp + 4) gs (g ⊕ ts)
+        dividing-kept {w′} {rtop} {rnode} c =
             placed-one w′ rtop rnode (omega (arith, c .top-is))
             (same-less w w′ 0 high (high + 10) 0 high (sp + 4) (omega arith) (omega arith) (omega (arith, room, sum-some)) (c .kept)) g
             (omega (arith, c .top-is, sum-some)) (sym (placed-kept (p .type) m g (count-is ∙ o) (omega (arith, sum-is)))) (rw (c .top-is) (c .holds copy-ready))
@@ -263,14 +265,15 @@ module _ (w₀ : List ℕ) (top₀ stack node k kd i m size next : ℕ) (p : Div
           };
         }
 
-        pub dividing-many : (start len : ℕ) → start ≡ getD w (first + 2) 0 → len ≡ end - start → (w′ : List ℕ) (rtop rnode : ℕ)
+        pub dividing-many : {start len : ℕ} → start ≡ getD w (first + 2) 0 → len ≡ end - start → {w′ : List ℕ} {rtop rnode : ℕ}
             → Balanced w w′ high (sp + 4) first count kd i kd i start len sum done rtop rnode
             → Dividing w′ rtop rnode (left - sum) (sp + 4) gs (balance (p .type) (p .type) start len g ⊕ ts)
-        dividing-many start len es el w′ rtop rnode c =
+        dividing-many {start} {len} es el {w′} {rtop} {rnode} c =
             let fs : first-start g ≡ start = start-held w (p .base) high (p .low) first g (d .waits .tail) (d .waits .some) held ∙ sym es in
             let fl : last-end 0 g - first-start g ≡ len = omega (arith, end-is, fs, el) in
             let eq : balance (p .type) (p .type) start len g ≡ f g =
-            sym (placed-several (p .type) m g (omega (arith, count-is, several o)) ∙ ap (λ (x : ℕ). balance (p .type) (p .type) (first-start g) x g) fl ∙ ap (λ (x : ℕ). balance (p .type) (p .type) x len g) fs) in
+            sym (placed-several (p .type) m g (omega (arith, count-is, several o))
+            ∙ ap (λ (x : ℕ). balance (p .type) (p .type) (first-start g) x g) fl ∙ ap (λ (x : ℕ). balance (p .type) (p .type) x len g) fs) in
             placed-one w′ rtop rnode (c .grown) (c .kept) (balance (p .type) (p .type) start len g) (c .used-many (several o)) eq (c .holds many-ready)
 
       -- a lone child above the share
@@ -281,14 +284,14 @@ module _ (w₀ : List ℕ) (top₀ stack node k kd i m size next : ℕ) (p : Div
         kids-at : Holds w (p .base) high (p .low) (getD w (first + 4) 0) (kids-of g)
         kids-at = kids-held w (p .base) high (p .low) first (p .type) g (d .waits .tail) (count-is ∙ o) (omega (arith, sum-is, pos)) held
 
-        module _ (kids n : ℕ) (ek : kids ≡ getD w (first + 4) 0) where
+        module _ {kids : ℕ} (ek : kids ≡ getD w (first + 4) 0) where
           pub kids-there : Holds w (p .base) high (p .low) kids (kids-of g)
           kids-there = rw ek kids-at
 
           pub kids-read : Readable w kids
           kids-read = readable w (p .base) high (p .low) kids (kids-of g) high-inside kids-there
 
-          module _ (en : n ≡ told w kids 8) where
+          module _ {n : ℕ} (en : n ≡ told w kids 8) where
             pub kids-count : siblings (kids-of g) ≡ n
             kids-count = omega (arith, en, tells-trees w (p .base) high (p .low) kids (kids-of g) kids-there, siblings-total (p .type) (kids-of g), kids-size, p .few, sum-le, d .less)
 
@@ -314,19 +317,21 @@ module _ (w₀ : List ℕ) (top₀ stack node k kd i m size next : ℕ) (p : Div
               pending = d .waits .below;
             }
 
-            pub dividing-inner : (w′ : List ℕ) (sp′ : ℕ) → Pushed w w′ (sp + 4) kids n kd i m sp′
+            pub dividing-inner : {w′ : List ℕ} {sp′ : ℕ} → Pushed w w′ (sp + 4) kids n kd i m sp′
                 → Dividing w′ high done (left - 1) sp′ (stacked (groups (p .type) m (kids-of g)) gs) ts
-            dividing-inner w′ sp′ h =
+            dividing-inner {w′} {sp′} h =
                 let inner : List Trees = groups (p .type) m (kids-of g) in
                 let above = h .above kids-ready in
                 let s : Same w w′ 0 high (sp + 4) = same-less w w′ 0 sp′ (sp + 4) 0 high (sp + 4) (omega arith) above (omega arith) (h .kept) in
+                let s-low : Same w w′ (p .base) high (p .low) = same-less w w′ 0 high (sp + 4) (p .base) high (p .low) (omega arith) (omega arith) low-sp s in
                 let some = some-group (p .type) m (kids-of g) (omega (arith, kids-size, l, pos)) in
+                let inner-is = placed-inner (p .type) m g (count-is ∙ o) (omega (arith, sum-is)) pos in
                 record {
                   kept = still w′ high done (omega arith) s ts;
                   grown = d .grown;
                   waits = h .waits kids-ready;
-                  onto = frame w w′ (p .base) high (p .low) high (p .low) (omega arith) (omega arith) (same-less w w′ 0 high (sp + 4) (p .base) high (p .low) (omega arith) (omega arith) low-sp s) done ts (d .onto);
-                  whole = unwound-stacked f inner gs ts ∙ ap (λ (x : Trees). unwound f gs (x ⊕ ts)) (sym (placed-inner (p .type) m g (count-is ∙ o) (omega (arith, sum-is)) pos)) ∙ sym (unwound-step f g gs ts) ∙ d .whole;
+                  onto = frame w w′ (p .base) high (p .low) high (p .low) (omega arith) (omega arith) s-low done ts (d .onto);
+                  whole = unwound-stacked f inner gs ts ∙ ap (λ (x : Trees). unwound f gs (x ⊕ ts)) (sym inner-is) ∙ sym (unwound-step f g gs ts) ∙ d .whole;
                   left-is = omega (arith, weight-stacked (p .type) inner gs, weight-groups (p .type) m (kids-of g), weights, kids-size, sum-is);
                   less = omega (arith, d .less);
                   used = omega (arith, d .used, length-stacked inner gs, some, sum-le, sum-some);

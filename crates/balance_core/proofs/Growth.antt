@@ -51,7 +51,13 @@ pub one-part : (t : Option ℕ) (s n : ℕ) (ws : List ℕ) → total t (part s 
 unfolding total
 one-part t s n ws = refl
 
-module _ (w : List ℕ) (node k kd i m : ℕ) (p : Row w node k kd i) where
+-- the first tree of the row
+pub row-sizable : {w : List ℕ} {node k kd i : ℕ} (p : Row w node k kd i) → 1 ≤ k → Sizable w node kd
+row-sizable {w} {node} p l =
+    let some-tree : 1 ≤ siblings (p .us ⊕ p .tail) = omega (arith, siblings-⊕ (p .us) (p .tail), p .counted) in
+    rw (p .kind-is) (sizable w (p .base) (p .top) (p .low) node (p .type) (p .us ⊕ p .tail) (p .inside) some-tree (p .holds))
+
+module _ {w : List ℕ} {node k kd i : ℕ} (m : ℕ) (p : Row w node k kd i) where
   pub record Growing (count size next end : ℕ) (first rest : Trees) : Type 0 where
     pub split : p .us ≡ first ⊕ rest
     pub from : groups (p .type) m (p .us) ≡ groups-from (p .type) m first size rest
@@ -62,14 +68,11 @@ module _ (w : List ℕ) (node k kd i m : ℕ) (p : Row w node k kd i) where
     pub end-is : last-end 0 first ≡ end
     pub small : 2 ≤ count → size < m
 
-  -- the first tree of the row
-  pub row-sizable : 1 ≤ k → Sizable w node kd
-  row-sizable l = rw (p .kind-is) (sizable w (p .base) (p .top) (p .low) node (p .type) (p .us ⊕ p .tail) (p .inside) (omega (arith, siblings-⊕ (p .us) (p .tail), p .counted)) (p .holds))
-
   abbrev Started : (size end next : ℕ) → Type 0
   Started size end next = (first : Trees) × (rest : Trees) × Growing 1 size next end first rest
 
-  start-at : (us : Trees) (size end next : ℕ) → 1 ≤ k → p .us ≡ us → Holds w (p .base) (p .top) (p .low) node (us ⊕ p .tail) → total (p .type) us < 4294967295 → Ends us → siblings us ≡ k
+  start-at : (us : Trees) (size end next : ℕ) → 1 ≤ k → p .us ≡ us → Holds w (p .base) (p .top) (p .low) node (us ⊕ p .tail)
+      → total (p .type) us < 4294967295 → Ends us → siblings us ≡ k
       → groups (p .type) m (p .us) ≡ groups (p .type) m us
       → size ≡ sized w node (kind (p .type)) (id-word (p .type)) → end ≡ word (getD w (node + 2) 0 + getD w (node + 3) 0) → next ≡ getD w (node + 5) 0 → Started size end next
   unfolding siblings _⊕_ groups last-end
@@ -113,35 +116,104 @@ module _ (w : List ℕ) (node k kd i m : ℕ) (p : Row w node k kd i) where
       part-one : (s n : ℕ) (ws : List ℕ) → total (p .type) (part s n ws nil) ≡ 1
       part-one s n ws = one-part (p .type) s n ws
 
-  pub growing-start : (size a b end next : ℕ) → 1 ≤ k → size ≡ sized w node kd i → a ≡ getD w (node + 2) 0 → b ≡ getD w (node + 3) 0 → end ≡ word (a + b) → next ≡ getD w (node + 5) 0
+  pub growing-start : {size a b end next : ℕ} → 1 ≤ k → size ≡ sized w node kd i → a ≡ getD w (node + 2) 0 → b ≡ getD w (node + 3) 0 → end ≡ word (a + b) → next ≡ getD w (node + 5) 0
       → Started size end next
-  growing-start size a b end next l es ea eb ee en =
+  growing-start {size} {end = end} {next = next} l es ea eb ee en =
       start-at (p .us) size end next l refl (p .holds) (p .few) (p .ends) (p .counted) refl (es ∙ rw (p .kind-is, p .id-is)) (ee ∙ rw (ea, eb)) en
 
-  module _ (count size next end : ℕ) where
-    abbrev Here : Trees → Trees → Type 0
-    Here = Growing count size next end
+  sized-is : (n : ℕ) → sized w n kd i ≡ sized w n (kind (p .type)) (id-word (p .type))
+  sized-is n = rw (p .kind-is, p .id-is)
 
-    left-over : (first rest : Trees) → Here first rest → count + siblings rest ≡ k
-    left-over first rest g = omega (arith, p .counted, ap siblings (g .split), siblings-⊕ first rest, g .count-is)
+  -- the next tree is one too much
+  stop : (size next : ℕ) (first rest : Trees) (x grown : ℕ) → Holds w (p .base) (p .top) (p .low) next (rest ⊕ p .tail) → 1 ≤ siblings rest
+      → size + total (p .type) rest < 4294967295
+      → x ≡ sized w next (kind (p .type)) (id-word (p .type)) → grown ≡ word (size + x) → m ≤ grown
+      → groups-from (p .type) m first size rest ≡ first ∷ groups (p .type) m rest
+  unfolding groups groups-from siblings _⊕_
+  stop size next first nil x grown h q few ex eg over = absurd (omega arith)
+  stop size next first (tree u s n kids rest) x grown h q few ex eg over =
+      let c : Trees = tree u s n kids nil in
+      let y = size-tree w (p .base) (p .top) (p .low) next (p .type) u s n kids (rest ⊕ p .tail) h in
+      from-tree (p .type) m first size u s n kids rest false (le-ltb (size + total (p .type) c) m (omega (arith, ex, eg, y)))
+  stop size next first (part s n ws rest) x grown h q few ex eg over =
+      let y = size-part w (p .base) (p .top) (p .low) next (p .type) s n ws (rest ⊕ p .tail) h in
+      from-part (p .type) m first size s n ws rest false (le-ltb (size + 1) m (omega (arith, ex, eg, y)))
 
-    sums : (first rest : Trees) → Here first rest → size + total (p .type) rest < 4294967295
-    sums first rest g = omega (arith, p .few, ap (total (p .type)) (g .split), total-⊕ (p .type) first rest, g .sum-is)
+  -- the next tree joins the group
+  abbrev Grown : (count grown next′ end′ : ℕ) → Type 0
+  Grown count grown next′ end′ = (first : Trees) × (rest : Trees) × Growing (count + 1) grown next′ end′ first rest
 
-    ends-rest : (first rest : Trees) → Here first rest → Ends rest
-    ends-rest first rest g = ends-⊕ first rest (rw (g .split) at (p .ends))
+  step : (count size next end : ℕ) (first rest : Trees) → Growing count size next end first rest → (x grown next′ end′ : ℕ)
+      → Holds w (p .base) (p .top) (p .low) next (rest ⊕ p .tail) → Ends rest → 1 ≤ siblings rest
+      → size + total (p .type) rest < 4294967295
+      → x ≡ sized w next (kind (p .type)) (id-word (p .type)) → grown ≡ word (size + x) → grown < m → m ≤ 4294967295
+      → end′ ≡ word (getD w (next + 2) 0 + getD w (next + 3) 0) → next′ ≡ getD w (next + 5) 0
+      → p .us ≡ first ⊕ rest → groups (p .type) m (p .us) ≡ groups-from (p .type) m first size rest → Grown count grown next′ end′
+  unfolding groups-from siblings _⊕_
+  step count size next end first nil g x grown next′ end′ h ends q few ex eg under fits ee en sp fr = absurd (omega arith)
+  step count size next end first (tree u s n kids rest) g x grown next′ end′ h ends q few ex eg under fits ee en sp fr =
+      let c : Trees = tree u s n kids nil in
+      let y = size-tree w (p .base) (p .top) (p .low) next (p .type) u s n kids (rest ⊕ p .tail) h in
+      let v = total-⊕ (p .type) c rest in
+      let z : grown ≡ size + total (p .type) c = omega (arith, ex, eg, y, v) in (
+        first ⊕ c,
+        rest,
+        record {
+          split = sp ∙ sym (⊕-assoc first c rest);
+          from = fr ∙ from-tree (p .type) m first size u s n kids rest true (lt-ltb (size + total (p .type) c) m (omega arith))
+              ∙ (ap (λ (b : ℕ). groups-from (p .type) m (first ⊕ c) b rest) (sym z));
+          some = omega arith;
+          count-is = siblings-⊕ first c ∙ omega (arith, g .count-is);
+          sum-is = total-⊕ (p .type) first c ∙ omega (arith, g .sum-is);
+          next-is = rw en (h .next);
+          end-is = end-tree 0 first u s n kids ∙ omega (arith, ee, h .node .start-at, h .node .length-at, ends .own);
+          small = λ b. under;
+        },
+      )
+  step count size next end first (part s n ws rest) g x grown next′ end′ h ends q few ex eg under fits ee en sp fr =
+      let c : Trees = part s n ws nil in
+      let y = size-part w (p .base) (p .top) (p .low) next (p .type) s n ws (rest ⊕ p .tail) h in
+      let v = total-⊕ (p .type) c rest in
+      let o = one-part (p .type) s n ws in
+      let z : grown ≡ size + 1 = omega (arith, ex, eg, y, v, o) in (
+        first ⊕ c,
+        rest,
+        record {
+          split = sp ∙ sym (⊕-assoc first c rest);
+          from = fr ∙ from-part (p .type) m first size s n ws rest true (lt-ltb (size + 1) m (omega arith))
+              ∙ (ap (λ (b : ℕ). groups-from (p .type) m (first ⊕ c) b rest) (sym z));
+          some = omega arith;
+          count-is = siblings-⊕ first c ∙ omega (arith, g .count-is);
+          sum-is = total-⊕ (p .type) first c ∙ omega (arith, g .sum-is);
+          next-is = rw en (h .next);
+          end-is = end-part 0 first s n ws ∙ omega (arith, ee, h .node .start-at, h .node .length-at, ends .own);
+          small = λ b. under;
+        },
+      )
 
-    pub growing-sizable : (first rest : Trees) → Here first rest → count < k → Sizable w next kd
-    growing-sizable first rest g l = rw (p .kind-is) (sizable w (p .base) (p .top) (p .low) next (p .type) (rest ⊕ p .tail) (p .inside) (omega (arith, left-over first rest g, siblings-⊕ rest (p .tail))) (g .next-is))
+  module _ {count size next end : ℕ} {first rest : Trees} (g : Growing count size next end first rest) where
+    left-over : count + siblings rest ≡ k
+    left-over = omega (arith, p .counted, ap siblings (g .split), siblings-⊕ first rest, g .count-is)
 
-    pub growing-few : (first rest : Trees) → Here first rest → count ≤ k
-    growing-few first rest g = omega (arith, left-over first rest g)
+    sums : size + total (p .type) rest < 4294967295
+    sums = omega (arith, p .few, ap (total (p .type)) (g .split), total-⊕ (p .type) first rest, g .sum-is)
+
+    ends-rest : Ends rest
+    ends-rest = ends-⊕ first rest (rw (g .split) at (p .ends))
+
+    pub growing-sizable : count < k → Sizable w next kd
+    growing-sizable l =
+        let some-tree : 1 ≤ siblings (rest ⊕ p .tail) = omega (arith, left-over, siblings-⊕ rest (p .tail)) in
+        rw (p .kind-is) (sizable w (p .base) (p .top) (p .low) next (p .type) (rest ⊕ p .tail) (p .inside) some-tree (g .next-is))
+
+    pub growing-few : count ≤ k
+    growing-few = omega (arith, left-over)
 
     -- the group is the whole row
-    pub growing-end : (first rest : Trees) → Here first rest → k ≤ count → Grouped w node k kd i m p count size next end
+    pub growing-end : k ≤ count → Grouped w node k kd i m p count size next end
     unfolding groups groups-from
-    growing-end first rest g l =
-        let e : rest ≡ nil = siblings-none rest (omega (arith, left-over first rest g)) in
+    growing-end l =
+        let e : rest ≡ nil = siblings-none rest (omega (arith, left-over)) in
         record {
           first = first;
           rest = rest;
@@ -155,29 +227,12 @@ module _ (w : List ℕ) (node k kd i m : ℕ) (p : Row w node k kd i) where
           small = g .small;
         }
 
-    -- the next tree is one too much
-    stop : (first rest : Trees) (x grown : ℕ) → Holds w (p .base) (p .top) (p .low) next (rest ⊕ p .tail) → 1 ≤ siblings rest → size + total (p .type) rest < 4294967295
-        → x ≡ sized w next (kind (p .type)) (id-word (p .type)) → grown ≡ word (size + x) → m ≤ grown
-        → groups-from (p .type) m first size rest ≡ first ∷ groups (p .type) m rest
-    unfolding groups groups-from siblings _⊕_
-    stop first nil x grown h q few ex eg over = absurd (omega arith)
-    stop first (tree u s n kids rest) x grown h q few ex eg over =
-        let c : Trees = tree u s n kids nil in
-        let y = size-tree w (p .base) (p .top) (p .low) next (p .type) u s n kids (rest ⊕ p .tail) h in
-        from-tree (p .type) m first size u s n kids rest false (le-ltb (size + total (p .type) c) m (omega (arith, ex, eg, y)))
-    stop first (part s n ws rest) x grown h q few ex eg over =
-        let y = size-part w (p .base) (p .top) (p .low) next (p .type) s n ws (rest ⊕ p .tail) h in
-        from-part (p .type) m first size s n ws rest false (le-ltb (size + 1) m (omega (arith, ex, eg, y)))
-
-    sized-is : sized w next kd i ≡ sized w next (kind (p .type)) (id-word (p .type))
-    sized-is = rw (p .kind-is, p .id-is)
-
-    pub growing-stop : (first rest : Trees) → Here first rest → count < k → (x grown : ℕ) → x ≡ sized w next kd i → grown ≡ word (size + x) → m ≤ grown → Grouped w node k kd i m p count size next end
-    growing-stop first rest g l x grown ex eg over = record {
+    pub growing-stop : count < k → {x grown : ℕ} → x ≡ sized w next kd i → grown ≡ word (size + x) → m ≤ grown → Grouped w node k kd i m p count size next end
+    growing-stop l {x} {grown} ex eg over = record {
       first = first;
       rest = rest;
       split = g .split;
-      groups-is = g .from ∙ stop first rest x grown (g .next-is) (omega (arith, left-over first rest g)) (sums first rest g) (ex ∙ sized-is) eg over;
+      groups-is = g .from ∙ stop size next first rest x grown (g .next-is) (omega (arith, left-over)) sums (ex ∙ sized-is next) eg over;
       some = g .some;
       count-is = g .count-is;
       sum-is = g .sum-is;
@@ -186,55 +241,8 @@ module _ (w : List ℕ) (node k kd i m : ℕ) (p : Row w node k kd i) where
       small = g .small;
     }
 
-    -- the next tree joins the group
-    abbrev Grown : (grown next′ end′ : ℕ) → Type 0
-    Grown grown next′ end′ = (first : Trees) × (rest : Trees) × Growing (count + 1) grown next′ end′ first rest
-
-    step : (first rest : Trees) → Here first rest → (x grown next′ end′ : ℕ) → Holds w (p .base) (p .top) (p .low) next (rest ⊕ p .tail) → Ends rest → 1 ≤ siblings rest → size + total (p .type) rest < 4294967295
-        → x ≡ sized w next (kind (p .type)) (id-word (p .type)) → grown ≡ word (size + x) → grown < m → m ≤ 4294967295
-        → end′ ≡ word (getD w (next + 2) 0 + getD w (next + 3) 0) → next′ ≡ getD w (next + 5) 0
-        → p .us ≡ first ⊕ rest → groups (p .type) m (p .us) ≡ groups-from (p .type) m first size rest → Grown grown next′ end′
-    unfolding groups-from siblings _⊕_
-    step first nil g x grown next′ end′ h ends q few ex eg under fits ee en sp fr = absurd (omega arith)
-    step first (tree u s n kids rest) g x grown next′ end′ h ends q few ex eg under fits ee en sp fr =
-        let c : Trees = tree u s n kids nil in
-        let y = size-tree w (p .base) (p .top) (p .low) next (p .type) u s n kids (rest ⊕ p .tail) h in
-        let v = total-⊕ (p .type) c rest in
-        let z : grown ≡ size + total (p .type) c = omega (arith, ex, eg, y, v) in (
-          first ⊕ c,
-          rest,
-          record {
-            split = sp ∙ sym (⊕-assoc first c rest);
-            from = fr ∙ from-tree (p .type) m first size u s n kids rest true (lt-ltb (size + total (p .type) c) m (omega arith)) ∙ (ap (λ (b : ℕ). groups-from (p .type) m (first ⊕ c) b rest) (sym z));
-            some = omega arith;
-            count-is = siblings-⊕ first c ∙ omega (arith, g .count-is);
-            sum-is = total-⊕ (p .type) first c ∙ omega (arith, g .sum-is);
-            next-is = rw en (h .next);
-            end-is = end-tree 0 first u s n kids ∙ omega (arith, ee, h .node .start-at, h .node .length-at, ends .own);
-            small = λ b. under;
-          },
-        )
-    step first (part s n ws rest) g x grown next′ end′ h ends q few ex eg under fits ee en sp fr =
-        let c : Trees = part s n ws nil in
-        let y = size-part w (p .base) (p .top) (p .low) next (p .type) s n ws (rest ⊕ p .tail) h in
-        let v = total-⊕ (p .type) c rest in
-        let o = one-part (p .type) s n ws in
-        let z : grown ≡ size + 1 = omega (arith, ex, eg, y, v, o) in (
-          first ⊕ c,
-          rest,
-          record {
-            split = sp ∙ sym (⊕-assoc first c rest);
-            from = fr ∙ from-part (p .type) m first size s n ws rest true (lt-ltb (size + 1) m (omega arith)) ∙ (ap (λ (b : ℕ). groups-from (p .type) m (first ⊕ c) b rest) (sym z));
-            some = omega arith;
-            count-is = siblings-⊕ first c ∙ omega (arith, g .count-is);
-            sum-is = total-⊕ (p .type) first c ∙ omega (arith, g .sum-is);
-            next-is = rw en (h .next);
-            end-is = end-part 0 first s n ws ∙ omega (arith, ee, h .node .start-at, h .node .length-at, ends .own);
-            small = λ b. under;
-          },
-        )
-
-    pub growing-step : (first rest : Trees) → Here first rest → count < k → (x grown a b next′ end′ : ℕ) → x ≡ sized w next kd i → grown ≡ word (size + x) → grown < m → m ≤ 4294967295
-        → a ≡ getD w (next + 2) 0 → b ≡ getD w (next + 3) 0 → end′ ≡ word (a + b) → next′ ≡ getD w (next + 5) 0 → Grown grown next′ end′
-    growing-step first rest g l x grown a b next′ end′ ex eg under fits ea eb ee en =
-        step first rest g x grown next′ end′ (g .next-is) (ends-rest first rest g) (omega (arith, left-over first rest g)) (sums first rest g) (ex ∙ sized-is) eg under fits (ee ∙ rw (ea, eb)) en (g .split) (g .from)
+    pub growing-step : count < k → {x grown a b next′ end′ : ℕ} → x ≡ sized w next kd i → grown ≡ word (size + x) → grown < m → m ≤ 4294967295
+        → a ≡ getD w (next + 2) 0 → b ≡ getD w (next + 3) 0 → end′ ≡ word (a + b) → next′ ≡ getD w (next + 5) 0 → Grown count grown next′ end′
+    growing-step l {x} {grown} {next′ = next′} {end′ = end′} ex eg under fits ea eb ee en =
+        step count size next end first rest g x grown next′ end′ (g .next-is) ends-rest (omega (arith, left-over)) sums (ex ∙ sized-is next) eg
+        under fits (ee ∙ rw (ea, eb)) en (g .split) (g .from)

@@ -22,23 +22,23 @@ module _ (w : List ℕ) (n k i s l : ℕ) where
   pub alone-none : n ≡ 0 → false ≡ alone w n k i s l
   alone-none e = rw (eq-eqb n 0 e)
 
-  module _ (live : n ≡ 0 → ⊥) (a : ℕ) (ea : a ≡ getD w (n + 5) 0) where
+  module _ (live : n ≡ 0 → ⊥) {a : ℕ} (ea : a ≡ getD w (n + 5) 0) where
     pub alone-next : (a ≡ 0 → ⊥) → false ≡ alone w n k i s l
     alone-next h = rw (ne-eqb n 0 live, ← ea, ne-eqb a 0 h)
 
-    module _ (za : a ≡ 0) (b : ℕ) (eb : b ≡ getD w (n + 0) 0) where
+    module _ (za : a ≡ 0) {b : ℕ} (eb : b ≡ getD w n 0) where
       pub alone-kind : (b ≡ k → ⊥) → false ≡ alone w n k i s l
       alone-kind h = rw (ne-eqb n 0 live, ← ea, eq-eqb a 0 za, ← eb, ne-eqb k b (λ x. h (sym x)))
 
-      module _ (zb : b ≡ k) (c : ℕ) (ec : c ≡ getD w (n + 1) 0) where
+      module _ (zb : b ≡ k) {c : ℕ} (ec : c ≡ getD w (n + 1) 0) where
         pub alone-id : (c ≡ i → ⊥) → false ≡ alone w n k i s l
         alone-id h = rw (ne-eqb n 0 live, ← ea, eq-eqb a 0 za, ← eb, eq-eqb k b (sym zb), ← ec, ne-eqb i c (λ x. h (sym x)))
 
-        module _ (zc : c ≡ i) (d : ℕ) (ed : d ≡ getD w (n + 2) 0) where
+        module _ (zc : c ≡ i) {d : ℕ} (ed : d ≡ getD w (n + 2) 0) where
           pub alone-start : (d ≡ s → ⊥) → false ≡ alone w n k i s l
           alone-start h = rw (ne-eqb n 0 live, ← ea, eq-eqb a 0 za, ← eb, eq-eqb k b (sym zb), ← ec, eq-eqb i c (sym zc), ← ed, ne-eqb s d (λ x. h (sym x)))
 
-          module _ (zd : d ≡ s) (e : ℕ) (ee : e ≡ getD w (n + 3) 0) where
+          module _ (zd : d ≡ s) {e : ℕ} (ee : e ≡ getD w (n + 3) 0) where
             pub alone-length : (e ≡ l → ⊥) → false ≡ alone w n k i s l
             alone-length h = rw (ne-eqb n 0 live, ← ea, eq-eqb a 0 za, ← eb, eq-eqb k b (sym zb), ← ec, eq-eqb i c (sym zc), ← ed, eq-eqb s d (sym zd), ← ee, ne-eqb l e (λ x. h (sym x)))
 
@@ -74,11 +74,9 @@ pub alone-is : (w : List ℕ) (base top low n : ℕ) (t : Option ℕ) (s l : ℕ
 unfolding is-tree
 alone-is w base top low n t s l nil h = rw (eq-eqb n 0 h)
 alone-is w base top low n t s l (part s′ l′ ws rest) h =
-    let z : n + 0 ≡ n = omega arith in
-    rw (ne-eqb n 0 (λ e. omega (arith, h .node .live)), z, h .node .kind-at, ne-eqb (kind t) 2 (not-part t)) (no-kind (eqb (getD w (n + 5) 0) 0))
+    rw (ne-eqb n 0 (λ e. omega (arith, h .node .live)), h .node .kind-at, ne-eqb (kind t) 2 (not-part t)) (no-kind (eqb (getD w (n + 5) 0) 0))
 alone-is w base top low n t s l (tree u s′ l′ kids rest) h =
-    let z : n + 0 ≡ n = omega arith in
-    rw (ne-eqb n 0 (λ e. omega (arith, h .node .live)), z, h .node .kind-at, h .node .id-at, h .node .start-at, h .node .length-at, lone-next w base top low _ u s′ l′ kids rest (h .next))
+    rw (ne-eqb n 0 (λ e. omega (arith, h .node .live)), h .node .kind-at, h .node .id-at, h .node .start-at, h .node .length-at, lone-next w base top low _ u s′ l′ kids rest (h .next))
     (five (lone (tree u s′ l′ kids rest)) (eqb (kind t) (kind u)) (eqb (id-word t) (id-word u)) (eqb s s′) (eqb l l′)
     ∙ ap (λ (x : Bool). lone (tree u s′ l′ kids rest) && (x && (eqb s s′ && eqb l l′))) (same-words t u))
 
@@ -106,10 +104,7 @@ joined-new : (t : Option ℕ) (s l : ℕ) (ts rest : Trees) → is-tree t s l ts
 unfolding joined _⊕_
 joined-new t s l ts rest e = ap (λ (b : Bool). elim b [ true ↦ ts | false ↦ tree t s l ts nil ] ⊕ rest) e
 
-module _ (w : List ℕ) (top node kd i s l next : ℕ) where
-  pub is-at : (p : JoinReady w top node kd i next) (x : Bool) → x ≡ alone w node kd i s l → is-tree (p .type) s l (p .ts) ≡ x
-  is-at p x e = sym (e ∙ rw (p .kind-is, p .id-is) (alone-is w (p .base) top (p .low) node (p .type) s l (p .ts) (p .holds)))
-
+module _ {w : List ℕ} {top node kd i next : ℕ} where
   pub join-node : JoinReady w top node kd i next → Readable w node
   join-node p = readable w (p .base) top (p .low) node (p .ts) (omega (arith, p .room, p .inside)) (p .holds)
 
@@ -122,8 +117,13 @@ module _ (w : List ℕ) (top node kd i s l next : ℕ) where
   pub join-fits : JoinReady w top node kd i next → top + 10 ≤ 4294967295
   join-fits p = omega (arith, p .room, p .fits)
 
-  abbrev pub join-copy : (x : Bool) → x ≡ alone w node kd i s l → x ≡ true → JoinReady w top node kd i next → CopyReady w top node next
-  join-copy x e y p = record {
+-- by the test's answer
+module _ (s l : ℕ) {w : List ℕ} {node kd i : ℕ} {x : Bool} (e : x ≡ alone w node kd i s l) where
+  pub is-at : {top next : ℕ} (p : JoinReady w top node kd i next) → is-tree (p .type) s l (p .ts) ≡ x
+  is-at {top} p = sym (e ∙ rw (p .kind-is, p .id-is) (alone-is w (p .base) top (p .low) node (p .type) s l (p .ts) (p .holds)))
+
+  abbrev pub join-copy : x ≡ true → {top next : ℕ} → JoinReady w top node kd i next → CopyReady w top node next
+  join-copy y p = record {
     base = p .base;
     low = p .low;
     first = p .ts;
@@ -134,22 +134,24 @@ module _ (w : List ℕ) (top node kd i s l next : ℕ) where
     room = p .room;
     inside = p .inside;
     fits = p .fits;
-    one = is-one (p .type) s l (p .ts) (is-at p x e ∙ y);
+    one = is-one (p .type) s l (p .ts) (is-at p ∙ y);
     holds = rw (⊕-nil (p .ts)) (p .holds);
     onto = p .onto;
   }
 
-  pub join-copied : (x : Bool) → x ≡ alone w node kd i s l → x ≡ true → (w′ : List ℕ) (rtop rnode : ℕ) → Copied w w′ top node next rtop rnode → Joined w w′ top node kd i s l next rtop rnode
-  join-copied x e y w′ rtop rnode c = record {
+  pub join-copied : x ≡ true → {w′ : List ℕ} {top next rtop rnode : ℕ} → Copied w w′ top node next rtop rnode
+      → Joined w w′ top node kd i s l next rtop rnode
+  join-copied y c = record {
     top-is = c .top-is;
     kept = c .kept;
-    holds = λ p. rw (joined-same (p .type) s l (p .ts) (is-at p x e ∙ y)) (c .holds (join-copy x e y p));
+    holds = λ p. rw (joined-same (p .type) s l (p .ts) (is-at p ∙ y)) (c .holds (join-copy y p));
   }
 
-  pub join-pushed : (x : Bool) → x ≡ alone w node kd i s l → x ≡ false → (w′ : List ℕ) (r : ℕ) → PushedTree w w′ top kd i s l node next r → Joined w w′ top node kd i s l next (top + 10) r
-  join-pushed x e y w′ r q = record {
+  pub join-pushed : x ≡ false → {w′ : List ℕ} {top next r : ℕ} → PushedTree w w′ top kd i s l node next r
+      → Joined w w′ top node kd i s l next (top + 10) r
+  join-pushed y q = record {
     top-is = refl;
     kept = q .kept;
-    holds = λ p. rw (joined-new (p .type) s l (p .ts) (p .rest) (is-at p x e ∙ y))
+    holds = λ p. rw (joined-new (p .type) s l (p .ts) (p .rest) (is-at p ∙ y))
         (q .holds (p .base) (p .low) (p .type) (p .ts) (p .rest) (p .live) (p .above) (p .room) (p .kind-is) (p .id-is) (p .holds) (p .onto));
   }

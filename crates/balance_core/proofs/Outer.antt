@@ -10,11 +10,8 @@ use Rattle.store.specs.Store.{Holds}
 use Rattle.store.proofs.Frame.{same-less, frame}
 use Rattle.balance_core.specs.Ready.{JoinReady, Joined, DivideReady, Divided, BalanceReady, Balanced}
 
-module _ (w : List ℕ) (top stack node k kd i okd oi size next m : ℕ) (em : m ≡ share size) where
-  abbrev Ready : Type 0
-  Ready = BalanceReady w top stack node k kd i okd oi size next
-
-  abbrev pub inner-ready : Ready → DivideReady w top stack node k kd i m size 0
+module _ {w : List ℕ} {top stack node k kd i okd oi size next m : ℕ} (em : m ≡ share size) where
+  abbrev pub inner-ready : BalanceReady w top stack node k kd i okd oi size next → DivideReady w top stack node k kd i m size 0
   inner-ready p = record {
     base = p .row .base;
     low = p .row .low;
@@ -41,19 +38,19 @@ module _ (w : List ℕ) (top stack node k kd i okd oi size next m : ℕ) (em : m
   }
 
   -- the children as the definition has them
-  abbrev pub kids-of-row : Ready → Trees
+  abbrev pub kids-of-row : BalanceReady w top stack node k kd i okd oi size next → Trees
   kids-of-row p = divide (suc (total (p .row .type) (p .row .us))) (p .row .type) (share (total (p .row .type) (p .row .us))) (p .row .us)
 
-  module _ (w₁ : List ℕ) (high kids : ℕ) (d : Divided w w₁ top stack node k kd i m size 0 high kids) where
-    pub stack-room : (p : Ready) → high + 10 ≤ stack
+  module _ {w₁ : List ℕ} {high kids : ℕ} (d : Divided w w₁ top stack node k kd i m size 0 high kids) where
+    pub stack-room : (p : BalanceReady w top stack node k kd i okd oi size next) → high + 10 ≤ stack
     stack-room p = omega (arith, d .used, p .row .room)
 
-    pub next-held : (p : Ready) → Holds w₁ (p .row .base) high (p .row .low) next (p .row .rest)
+    pub next-held : (p : BalanceReady w top stack node k kd i okd oi size next) → Holds w₁ (p .row .base) high (p .row .low) next (p .row .rest)
     next-held p =
         frame w w₁ (p .row .base) top (p .row .low) high (p .row .low) (d .grown) (omega arith)
         (same-less w w₁ 0 top stack (p .row .base) top (p .row .low) (omega arith) (omega arith) (p .row .under) (d .kept)) next (p .row .rest) (p .row .onto)
 
-    pub kids-made : (p : Ready) → Holds w₁ (p .row .base) high (p .row .low) kids (kids-of-row p)
+    pub kids-made : (p : BalanceReady w top stack node k kd i okd oi size next) → Holds w₁ (p .row .base) high (p .row .low) kids (kids-of-row p)
     kids-made p =
         let e : m ≡ share (total (p .row .type) (p .row .us)) = em ∙ ap share (sym (p .row .size-is)) in
         let us : Trees = p .row .us in
@@ -61,7 +58,7 @@ module _ (w : List ℕ) (top stack node k kd i okd oi size next m : ℕ) (em : m
         ⊕-nil _ ∙ ap (λ (x : ℕ). divide (suc (total (p .row .type) us)) (p .row .type) x us) e in
         rw f at (d .holds (inner-ready p))
 
-    abbrev pub join-ready : Ready → JoinReady w₁ high kids okd oi next
+    abbrev pub join-ready : BalanceReady w top stack node k kd i okd oi size next → JoinReady w₁ high kids okd oi next
     join-ready p = record {
       base = p .row .base;
       low = p .row .low;
@@ -79,10 +76,11 @@ module _ (w : List ℕ) (top stack node k kd i okd oi size next m : ℕ) (em : m
       onto = next-held p;
     }
 
-    pub balanced : Ready → (s l : ℕ) (w₂ : List ℕ) (rtop rnode : ℕ) → Joined w₁ w₂ high kids okd oi s l next rtop rnode
+    pub balanced : BalanceReady w top stack node k kd i okd oi size next
+        → {s l : ℕ} {w₂ : List ℕ} {rtop rnode : ℕ} → Joined w₁ w₂ high kids okd oi s l next rtop rnode
         → Balanced w w₂ top stack node k kd i okd oi s l size next rtop rnode
     unfolding balance
-    balanced p s l w₂ rtop rnode j = record {
+    balanced p j = record {
       grown = omega (arith, d .grown, j .top-is);
       kept = record {
         size = j .kept .size ∙ d .kept .size;

@@ -35,7 +35,7 @@ stacked-cons : (g : Trees) (gs cur : List Trees) → stacked (g ∷ gs) cur ≡ 
 unfolding stacked
 stacked-cons g gs cur = refl
 
-module _ (w₀ : List ℕ) (stack node k kd i m : ℕ) (p : PushReady w₀ stack node k kd i m) where
+module _ {w₀ : List ℕ} {stack node k kd i m : ℕ} (p : PushReady w₀ stack node k kd i m) where
   -- the groups `cur` wait from sp on, and those of `rest`, which stands at `at`, are still to come
   pub record Pushing (w : List ℕ) (sp at left : ℕ) (rest : Trees) (cur : List Trees) : Type 0 where
     pub kept : Same w₀ w 0 sp stack
@@ -61,7 +61,7 @@ module _ (w₀ : List ℕ) (stack node k kd i m : ℕ) (p : PushReady w₀ stack
     whole = refl;
   }
 
-  module _ (w : List ℕ) (sp at left : ℕ) (rest : Trees) (cur : List Trees) (h : Pushing w sp at left rest cur) where
+  module _ {w : List ℕ} {sp at left : ℕ} {rest : Trees} {cur : List Trees} (h : Pushing w sp at left rest cur) where
     pub sp-bottom : sp ≤ p .bottom
     sp-bottom = omega (arith, pending-deep w (p .base) (p .top) (p .low) (p .type) m sp (p .bottom) cur (h .pending))
 
@@ -82,7 +82,7 @@ module _ (w₀ : List ℕ) (stack node k kd i m : ℕ) (p : PushReady w₀ stack
       ends = h .ends;
     }
 
-    module _ (count sum next end : ℕ) (g : Grouped w at left kd i m row-left count sum next end) where
+    module _ {count sum next end : ℕ} (g : Grouped w at left kd i m row-left count sum next end) where
       counts : count + siblings (g .rest) ≡ left
       counts = omega (arith, h .counted, ap siblings (g .split), siblings-⊕ (g .first) (g .rest), g .count-is)
 
@@ -101,7 +101,7 @@ module _ (w₀ : List ℕ) (stack node k kd i m : ℕ) (p : PushReady w₀ stack
       pub inside-sp : sp ≤ length w
       inside-sp = omega (arith, sp-bottom, p .under, p .inside, h .kept .size)
 
-      module _ (w′ : List ℕ) (sp′ : ℕ) (e : sp′ + 4 ≡ sp) (f : w′ ≡ put w sp′ (at ∷ count ∷ sum ∷ end ∷ [])) where
+      module _ {w′ : List ℕ} (sp′ : ℕ) (e : sp′ + 4 ≡ sp) (f : w′ ≡ put w sp′ (at ∷ count ∷ sum ∷ end ∷ [])) where
         inside : sp′ + 4 ≤ length w
         inside = omega (arith, inside-sp)
 

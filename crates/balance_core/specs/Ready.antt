@@ -9,7 +9,7 @@ use lib.ListN.{length, getD}
 use Rattle.tree.specs.Trees.{Trees, _⊕_, siblings}
 use Rattle.tree.specs.Cells.{kind, id-word}
 use Rattle.tree.specs.Balance.{total, share, divide, joined, balance}
-use Rattle.store.specs.Store.{Holds, Same, node-width, node-id, node-start, node-length, node-next}
+use Rattle.store.specs.Store.{Holds, Same, node-width, node-id, node-start, node-length, node-next, node-kind}
 use Rattle.balance_core.specs.Rows.{Ends}
 
 -- one tree, whose later siblings do not count, and a list to stand before
@@ -39,7 +39,7 @@ abbrev pub alone : (w : List ℕ) (n kind id start length : ℕ) → Bool
 alone w n k i s l =
     cond (eqb n 0) false
     (cond (eqb (node-next w n) 0)
-    (cond (eqb k (getD w (n + 0) 0))
+    (cond (eqb k (node-kind w n))
     (cond (eqb i (node-id w n))
     (cond (eqb s (node-start w n))
     (cond (eqb l (node-length w n)) true false) false) false) false) false)

@@ -177,132 +177,140 @@ module _ (w : List ℕ) (p lo b : ℕ) where
     flat-is = λ own g. rw (none-held, no-stop);
   }
 
-  module _ (at count first end : ℕ) (h : Extending at count first end) where
-    module _ (some-record : lo < at) where
-      abbrev i : ℕ
-      i = getD w ((at - 1) * 4) 0
+module _ {w : List ℕ} {p lo b at count first end : ℕ} (h : Extending w p lo b at count first end) where
+  abbrev held-here : ℕ → List Record
+  held-here = held-at w p lo b
 
-      abbrev s : ℕ
-      s = getD w ((at - 1) * 4 + 1) 0
+  abbrev stop-here : ℕ → ℕ
+  stop-here = stop-at w p lo b
 
-      abbrev e : ℕ
-      e = getD w ((at - 1) * 4 + 2) 0
+  module _ (some-record : lo < at) where
+    abbrev i : ℕ
+    i = getD w ((at - 1) * 4) 0
 
-      abbrev n : ℕ
-      n = getD w ((at - 1) * 4 + 3) 0
+    abbrev s : ℕ
+    s = getD w ((at - 1) * 4 + 1) 0
 
-      step : held-at (at - 1) ≡ hold (record-at w (at - 1)) (held-at at)
-      step = held-step w p at (omega arith) (h .below)
+    abbrev e : ℕ
+    e = getD w ((at - 1) * 4 + 2) 0
 
-      stops : limit b (record-at w (at - 1)) (held-at at) (stop-at at) ≡ stop-at (at - 1)
-      stops = limit-is b i s e n (held-at at) ∙ ap (λ (rs : List Record). held-end 0 rs - b) (sym step)
+    abbrev n : ℕ
+    n = getD w ((at - 1) * 4 + 3) 0
 
-      room-on : ends (record-at w (at - 1)) (held-at at) (stop-at at) ≡ false → Room b (held-at (at - 1)) (stop-at (at - 1))
-      room-on q = rw (← stops, step) (room-hold b i s e n (held-at at) (stop-at at) q (h .room))
+    step : held-here (at - 1) ≡ hold (record-at w (at - 1)) (held-here at)
+    step = held-step w p at (omega arith) (h .below)
 
-      flat-step : ends (record-at w (at - 1)) (held-at at) (stop-at at) ≡ false → (own : Option ℕ) (g : Gathered)
-          → flat b own (from-back w lo (p - lo)) true [] 0 g ≡ flat b own (from-back w lo (at - 1 - lo)) true (held-at (at - 1)) (stop-at (at - 1)) g
-      flat-step q own g =
-          h .flat-is own g
-          ∙ (ap (λ (rs : List Record). flat b own rs true (held-at at) (stop-at at) g) (back-step w lo at some-record)
-          ∙ (flat-on b own i s e n (from-back w lo (at - 1 - lo)) (held-at at) (stop-at at) g q
-          ∙ rw (stops, step)))
+    stops : limit b (record-at w (at - 1)) (held-here at) (stop-here at) ≡ stop-here (at - 1)
+    stops = limit-is b i s e n (held-here at) ∙ ap (λ (rs : List Record). held-end 0 rs - b) (sym step)
 
-      pub extending-drop : count < 16383 → 4 < n → Extending (at - 1) count first end
-      extending-drop f big =
-          let same : held-at (at - 1) ≡ held-at at = step ∙ hold-none i s e n (held-at at) big in
-          let q = ends-dropped i s e n (stop-at at) (held-at at) (omega (arith, h .counted)) big in
-          record {
-            above = omega arith;
-            below = omega (arith, h .below);
-            counted = h .counted ∙ ap (λ (rs : List Record). length rs) (sym same);
-            ended = h .ended ∙ ap (λ (rs : List Record). held-end 0 rs) (sym same);
-            within = h .within;
-            head = λ k. let (more, z) = h .head k in (more, same ∙ z);
-            room = room-on q;
-            flat-is = flat-step q;
-          }
+    room-on : ends (record-at w (at - 1)) (held-here at) (stop-here at) ≡ false → Room b (held-here (at - 1)) (stop-here (at - 1))
+    room-on q = rw (← stops, step) (room-hold b i s e n (held-here at) (stop-here at) q (h .room))
 
-      pub extending-hold : (r : ℕ) → count < 16383 → n ≤ 4 → end ≤ s + b → r ≡ cond (eqb count 0) e end → Extending (at - 1) (count + 1) (at - 1) r
-      extending-hold r f small near er =
-          let more : held-at (at - 1) ≡ record-at w (at - 1) ∷ held-at at = step ∙ hold-one i s e n (held-at at) small in
-          let q = ends-held i s e n (stop-at at) (held-at at) (omega (arith, h .counted)) small (omega (arith, h .ended)) in
-          record {
-            above = omega arith;
-            below = omega (arith, h .below);
-            counted = rw more (omega (arith, h .counted));
-            ended = end-held i s e n end count r (held-at at) (h .ended) (h .counted) er ∙ ap (λ (rs : List Record). held-end 0 rs) (sym more);
-            within = λ k. omega (arith, h .below);
-            head = λ k. (held-at at, more);
-            room = room-on q;
-            flat-is = flat-step q;
-          }
+    flat-step : ends (record-at w (at - 1)) (held-here at) (stop-here at) ≡ false → (own : Option ℕ) (g : Gathered)
+        → flat b own (from-back w lo (p - lo)) true [] 0 g ≡ flat b own (from-back w lo (at - 1 - lo)) true (held-here (at - 1)) (stop-here (at - 1)) g
+    flat-step q own g =
+        h .flat-is own g
+        ∙ (ap (λ (rs : List Record). flat b own rs true (held-here at) (stop-here at) g) (back-step w lo at some-record)
+        ∙ (flat-on b own i s e n (from-back w lo (at - 1 - lo)) (held-here at) (stop-here at) g q
+        ∙ rw (stops, step)))
 
-      extended : ends (record-at w (at - 1)) (held-at at) (stop-at at) ≡ true → at < p → Extends w p lo b at count first end
-      extended q l = record {
-        above = h .above;
-        below = h .below;
-        further = λ k. l;
-        counted = h .counted;
-        ended = h .ended;
-        within = h .within;
-        head = h .head;
-        room = h .room;
-        flat-is = λ own g.
-            h .flat-is own g
-            ∙ (ap (λ (rs : List Record). flat b own rs true (held-at at) (stop-at at) g) (back-step w lo at some-record)
-            ∙ (flat-ends b own i s e n (from-back w lo (at - 1 - lo)) (held-at at) (stop-at at) g q
-            ∙ ap (λ (rs : List Record). flat b own rs false [] 0 (gather (flat-part (held-at at)) g)) (sym (back-step w lo at some-record))));
-      }
+    pub extending-drop : count < 16383 → 4 < n → Extending w p lo b (at - 1) count first end
+    extending-drop f big =
+        let same : held-here (at - 1) ≡ held-here at = step ∙ hold-none i s e n (held-here at) big in
+        let q = ends-dropped i s e n (stop-here at) (held-here at) (omega (arith, h .counted)) big in
+        record {
+          above = omega arith;
+          below = omega (arith, h .below);
+          counted = h .counted ∙ ap (λ (rs : List Record). length rs) (sym same);
+          ended = h .ended ∙ ap (λ (rs : List Record). held-end 0 rs) (sym same);
+          within = h .within;
+          head = λ k. let (more, z) = h .head k in (more, same ∙ z);
+          room = room-on q;
+          flat-is = flat-step q;
+        }
 
-      pub extended-full : 16383 ≤ count → Extends w p lo b at count first end
-      extended-full f = extended (ends-full i s e n (stop-at at) (held-at at) (omega (arith, h .counted))) (go (ℕ-discrete at p))
-        where
-          go : Dec (at ≡ p) → at < p
-          go (yes z) = let c : count ≡ 0 = h .counted ∙ rw (z, none-held) in absurd (omega arith)
-          go (no z) = omega (arith, h .below)
+    pub extending-hold : (r : ℕ) → count < 16383 → n ≤ 4 → end ≤ s + b → r ≡ cond (eqb count 0) e end → Extending w p lo b (at - 1) (count + 1) (at - 1) r
+    extending-hold r f small near er =
+        let more : held-here (at - 1) ≡ record-at w (at - 1) ∷ held-here at = step ∙ hold-one i s e n (held-here at) small in
+        let q = ends-held i s e n (stop-here at) (held-here at) (omega (arith, h .counted)) small (omega (arith, h .ended)) in
+        record {
+          above = omega arith;
+          below = omega (arith, h .below);
+          counted = rw more (omega (arith, h .counted));
+          ended = end-held i s e n end count r (held-here at) (h .ended) (h .counted) er ∙ ap (λ (rs : List Record). held-end 0 rs) (sym more);
+          within = λ k. omega (arith, h .below);
+          head = λ k. (held-here at, more);
+          room = room-on q;
+          flat-is = flat-step q;
+        }
 
-      pub extended-early : n ≤ 4 → s + b < end → Extends w p lo b at count first end
-      extended-early small early = extended (ends-early i s e n (stop-at at) (held-at at) small (omega (arith, h .ended))) (go (ℕ-discrete at p))
-        where
-          go : Dec (at ≡ p) → at < p
-          go (yes z) = let c : end ≡ 0 = h .ended ∙ rw (z, none-held) no-end in absurd (omega arith)
-          go (no z) = omega (arith, h .below)
-
-    -- the same by the numbers that the code has: the place before the record, and its words
-    module _ (some-record : lo < at) (q v : ℕ) (eq : q ≡ at - 1) (ev : v ≡ getD w (q * 4 + 3) 0) where
-      size-is : v ≡ n some-record
-      size-is = ev ∙ ap (λ (j : ℕ). getD w (j * 4 + 3) 0) eq
-
-      pub drop-at : count < 16383 → 4 < v → (q′ count′ first′ end′ : ℕ) → q′ ≡ q → count′ ≡ count → first′ ≡ first → end′ ≡ end → Extending q′ count′ first′ end′
-      drop-at f big q′ count′ first′ end′ eq′ ec ef ee = rw (eq′, ec, ef, ee, eq) (extending-drop some-record f (omega (arith, size-is)))
-
-      module _ (u z : ℕ) (eu : u ≡ getD w (q * 4 + 1) 0) (ez : z ≡ end - b) (small : v ≤ 4) where
-        start-is : u ≡ s some-record
-        start-is = eu ∙ ap (λ (j : ℕ). getD w (j * 4 + 1) 0) eq
-
-        pub early-at : u < z → Extends w p lo b at count first end
-        early-at early = extended-early some-record (omega (arith, size-is)) (omega (arith, start-is, ez))
-
-        pub hold-at : (t : ℕ) → t ≡ getD w (q * 4 + 2) 0 → count < 16383 → z ≤ u
-            → (q′ count′ first′ end′ : ℕ) → q′ ≡ q → count′ ≡ count + 1 → first′ ≡ q → end′ ≡ cond (eqb count 0) t end → Extending q′ count′ first′ end′
-        hold-at t et f near q′ count′ first′ end′ eq′ ec ef ee =
-            let end-is : t ≡ e some-record = et ∙ ap (λ (j : ℕ). getD w (j * 4 + 2) 0) eq in
-            rw (eq′, ec, ef, eq)
-            (extending-hold some-record end′ f (omega (arith, size-is)) (omega (arith, start-is, ez)) (ee ∙ ap (λ (k : ℕ). cond (eqb count 0) k end) end-is))
-
-    pub extended-done : at ≤ lo → Extends w p lo b at count first end
-    extended-done l = record {
+    extended : ends (record-at w (at - 1)) (held-here at) (stop-here at) ≡ true → at < p → Extends w p lo b at count first end
+    extended q l = record {
       above = h .above;
       below = h .below;
-      further = λ k. omega arith;
+      further = λ k. l;
       counted = h .counted;
       ended = h .ended;
       within = h .within;
       head = h .head;
       room = h .room;
       flat-is = λ own g.
-          let z : at - lo ≡ 0 = omega arith in
-          let none-left : from-back w lo (at - lo) ≡ [] = ap (λ (k : ℕ). from-back w lo k) z ∙ back-none w lo in
-          h .flat-is own g ∙ rw none-left (flat-last b own (held-at at) (stop-at at) g);
+          h .flat-is own g
+          ∙ (ap (λ (rs : List Record). flat b own rs true (held-here at) (stop-here at) g) (back-step w lo at some-record)
+          ∙ (flat-ends b own i s e n (from-back w lo (at - 1 - lo)) (held-here at) (stop-here at) g q
+          ∙ ap (λ (rs : List Record). flat b own rs false [] 0 (gather (flat-part (held-here at)) g)) (sym (back-step w lo at some-record))));
     }
+
+    pub extended-full : 16383 ≤ count → Extends w p lo b at count first end
+    extended-full f = extended (ends-full i s e n (stop-here at) (held-here at) (omega (arith, h .counted))) (go (ℕ-discrete at p))
+      where
+        go : Dec (at ≡ p) → at < p
+        go (yes z) = let c : count ≡ 0 = h .counted ∙ rw (z, none-held w p lo b) in absurd (omega arith)
+        go (no z) = omega (arith, h .below)
+
+    pub extended-early : n ≤ 4 → s + b < end → Extends w p lo b at count first end
+    extended-early small early = extended (ends-early i s e n (stop-here at) (held-here at) small (omega (arith, h .ended))) (go (ℕ-discrete at p))
+      where
+        go : Dec (at ≡ p) → at < p
+        go (yes z) = let c : end ≡ 0 = h .ended ∙ rw (z, none-held w p lo b) (no-end w p lo b) in absurd (omega arith)
+        go (no z) = omega (arith, h .below)
+
+  -- the same by the numbers that the code has: the place before the record, and its words
+  module _ (some-record : lo < at) {q v : ℕ} (eq : q ≡ at - 1) (ev : v ≡ getD w (q * 4 + 3) 0) where
+    size-is : v ≡ n some-record
+    size-is = ev ∙ ap (λ (j : ℕ). getD w (j * 4 + 3) 0) eq
+
+    pub drop-at : count < 16383 → 4 < v → {q′ count′ first′ end′ : ℕ} → q′ ≡ q → count′ ≡ count → first′ ≡ first → end′ ≡ end
+        → Extending w p lo b q′ count′ first′ end′
+    drop-at f big eq′ ec ef ee = rw (eq′, ec, ef, ee, eq) (extending-drop some-record f (omega (arith, size-is)))
+
+    module _ {u z : ℕ} (eu : u ≡ getD w (q * 4 + 1) 0) (ez : z ≡ end - b) (small : v ≤ 4) where
+      start-is : u ≡ s some-record
+      start-is = eu ∙ ap (λ (j : ℕ). getD w (j * 4 + 1) 0) eq
+
+      pub early-at : u < z → Extends w p lo b at count first end
+      early-at early = extended-early some-record (omega (arith, size-is)) (omega (arith, start-is, ez))
+
+      pub hold-at : {t : ℕ} → t ≡ getD w (q * 4 + 2) 0 → count < 16383 → z ≤ u
+          → {q′ count′ first′ end′ : ℕ} → q′ ≡ q → count′ ≡ count + 1 → first′ ≡ q → end′ ≡ cond (eqb count 0) t end
+          → Extending w p lo b q′ count′ first′ end′
+      hold-at {t} et f near {q′} {count′} {first′} {end′} eq′ ec ef ee =
+          let end-is : t ≡ e some-record = et ∙ ap (λ (j : ℕ). getD w (j * 4 + 2) 0) eq in
+          rw (eq′, ec, ef, eq)
+          (extending-hold some-record end′ f (omega (arith, size-is)) (omega (arith, start-is, ez)) (ee ∙ ap (λ (k : ℕ). cond (eqb count 0) k end) end-is))
+
+  pub extended-done : at ≤ lo → Extends w p lo b at count first end
+  extended-done l = record {
+    above = h .above;
+    below = h .below;
+    further = λ k. omega arith;
+    counted = h .counted;
+    ended = h .ended;
+    within = h .within;
+    head = h .head;
+    room = h .room;
+    flat-is = λ own g.
+        let z : at - lo ≡ 0 = omega arith in
+        let none-left : from-back w lo (at - lo) ≡ [] = ap (λ (k : ℕ). from-back w lo k) z ∙ back-none w lo in
+        h .flat-is own g ∙ rw none-left (flat-last b own (held-here at) (stop-here at) g);
+  }

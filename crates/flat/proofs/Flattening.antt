@@ -48,12 +48,9 @@ flat-plain b (rec i s e n ∷ rs) inside held stop g =
     go true a c = a
     go false a c = c
 
-module _ (w l : List ℕ) (p lo : ℕ) (own : Option ℕ) (b top low groups loose edge : ℕ) where
-  abbrev pub Ready : Type 0
-  Ready = FlatReady w l p lo own b top low groups loose edge
-
+module _ {w l : List ℕ} {p lo : ℕ} {own : Option ℕ} {b top low groups loose edge : ℕ} where
   -- what is gathered so far, and the records from lo up to `at` that are still to come
-  pub record Taking (q : Ready) (l′ : List ℕ) (at below htop hgroups hloose hedge : ℕ) : Type 0 where
+  pub record Taking (q : FlatReady w l p lo own b top low groups loose edge) (l′ : List ℕ) (at below htop hgroups hloose hedge : ℕ) : Type 0 where
     pub above : lo ≤ at
     pub under : at ≤ p
     pub grown : top ≤ htop
@@ -66,10 +63,10 @@ module _ (w l : List ℕ) (p lo : ℕ) (own : Option ℕ) (b top low groups loos
     pub flat-is : flat b own (from-back w lo (p - lo)) false [] 0 (q .g) ≡ flat b own (from-back w lo (at - lo)) false [] 0 g
     pub used : htop + 24 * due own g + low ≤ below + top + 24 * due own (q .g) + 40 * (p - at)
 
-  pub read-is : (q : Ready) → flattened (q .its) [] ≡ from-back w lo (p - lo)
+  pub read-is : (q : FlatReady w l p lo own b top low groups loose edge) → flattened (q .its) [] ≡ from-back w lo (p - lo)
   read-is q = items-read w lo p (q .its) (q .stands .spells)
 
-  pub taking-start : (q : Ready) → Taking q l p low top groups loose edge
+  pub taking-start : (q : FlatReady w l p lo own b top low groups loose edge) → Taking q l p low top groups loose edge
   taking-start q = record {
     above = omega (arith, spells-count w lo p (q .its) (q .stands .spells));
     under = le-refl p;
@@ -84,7 +81,7 @@ module _ (w l : List ℕ) (p lo : ℕ) (own : Option ℕ) (b top low groups loos
     used = omega arith;
   }
 
-  module _ (q : Ready) (l′ : List ℕ) (at below htop hgroups hloose hedge : ℕ) (t : Taking q l′ at below htop hgroups hloose hedge) where
+  module _ {q : FlatReady w l p lo own b top low groups loose edge} {l′ : List ℕ} {at below htop hgroups hloose hedge : ℕ} (t : Taking q l′ at below htop hgroups hloose hedge) where
     room : htop + 24 * due own (t .g) + 40 * (at - lo) ≤ below
     room = omega (arith, q .room, t .used, t .above, t .under)
 
@@ -151,10 +148,10 @@ module _ (w l : List ℕ) (p lo : ℕ) (own : Option ℕ) (b top low groups loos
         used = omega (arith, t .used, v .few, due-pass own b i e (t .g), t .under);
       }
 
-      pub pass-at : (j id end : ℕ) → j ≡ at - 1 → id ≡ getD w (j * 4) 0 → end ≡ getD w (j * 4 + 2) 0 → (x : Bool) → x ≡ same own id → x ≡ true
-          → (l″ : List ℕ) (rtop rgroups rloose redge : ℕ) → PassedOver l′ l″ htop id end b hgroups hloose hedge rtop rgroups rloose redge
+      pub pass-at : {j id end : ℕ} → j ≡ at - 1 → id ≡ getD w (j * 4) 0 → end ≡ getD w (j * 4 + 2) 0 → {x : Bool} → x ≡ same own id → x ≡ true
+          → {l″ : List ℕ} {rtop rgroups rloose redge : ℕ} → PassedOver l′ l″ htop id end b hgroups hloose hedge rtop rgroups rloose redge
           → Taking q l″ j below rtop rgroups rloose redge
-      pass-at j id end ej ei ee x ex y l″ rtop rgroups rloose redge v =
+      pass-at {j} {id} {end} ej ei ee ex y {l″} {rtop} {rgroups} {rloose} {redge} v =
           let fi : id ≡ i = ei ∙ ap (λ (k : ℕ). getD w (k * 4) 0) ej in
           let fe : end ≡ e = ee ∙ ap (λ (k : ℕ). getD w (k * 4 + 2) 0) ej in
           rw ej (passing (ap (λ (k : ℕ). same own k) (sym fi) ∙ (sym ex ∙ y)) l″ rtop rgroups rloose redge (rw (fi, fe) at v))
@@ -176,11 +173,11 @@ module _ (w l : List ℕ) (p lo : ℕ) (own : Option ℕ) (b top low groups loos
         readable = loose-node;
       }
 
-      pub node-at : (j id : ℕ) → j ≡ at - 1 → id ≡ getD w (j * 4) 0 → (x : Bool) → x ≡ same own id → x ≡ false
-          → (l″ : List ℕ) (to rtop rlow rloose : ℕ) → TookFlat w l′ l″ at lo b htop below hloose to rtop rlow rloose
+      pub node-at : {j id : ℕ} → j ≡ at - 1 → id ≡ getD w (j * 4) 0 → {x : Bool} → x ≡ same own id → x ≡ false
+          → {l″ : List ℕ} {to rtop rlow rloose : ℕ} → TookFlat w l′ l″ at lo b htop below hloose to rtop rlow rloose
           → Taking q l″ to rlow rtop hgroups rloose hedge
       unfolding gather
-      node-at j id ej ei x ex y l″ to rtop rlow rloose v =
+      node-at {j} {id} ej ei ex y {l″} {to} {rtop} {rlow} {rloose} v =
           let fi : id ≡ i = ei ∙ ap (λ (k : ℕ). getD w (k * 4) 0) ej in
           let other : same own i ≡ false = ap (λ (k : ℕ). same own k) (sym fi) ∙ (sym ex ∙ y) in
           let held : List Record = held-in w to (at - to) in
@@ -222,12 +219,13 @@ module _ (w l : List ℕ) (p lo : ℕ) (own : Option ℕ) (b top low groups loos
         ap (λ (rs : List Record). flat b own rs false [] 0 (q .g)) (read-is q)
         ∙ (t .flat-is ∙ (ap (λ (rs : List Record). flat b own rs false [] 0 (t .g)) none-left ∙ flat-end b own (t .g)))
 
-  pub taken : (l′ : List ℕ) (at below htop hgroups hloose hedge : ℕ) → at ≤ lo → Ready → ((q : Ready) → Taking q l′ at below htop hgroups hloose hedge)
+  pub taken : {l′ : List ℕ} {at below htop hgroups hloose hedge : ℕ} → at ≤ lo → FlatReady w l p lo own b top low groups loose edge
+      → ((q : FlatReady w l p lo own b top low groups loose edge) → Taking q l′ at below htop hgroups hloose hedge)
       → TakenFlat w l l′ p lo own b top low groups loose edge htop below hgroups hloose hedge
-  taken l′ at below htop hgroups hloose hedge h q₀ t = record {
+  taken h q₀ t = record {
     grown = t q₀ .grown;
     lower = t q₀ .lower;
     kept = t q₀ .kept;
-    holds = λ q. rw (last-is q l′ at below htop hgroups hloose hedge (t q) h) (t q .holds);
-    used = λ q. rw (last-is q l′ at below htop hgroups hloose hedge (t q) h) (omega (arith, t q .used, t q .above, t q .under));
+    holds = λ q. rw (last-is (t q) h) (t q .holds);
+    used = λ q. rw (last-is (t q) h) (omega (arith, t q .used, t q .above, t q .under));
   }

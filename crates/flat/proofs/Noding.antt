@@ -25,8 +25,8 @@ no-records : (rs : List Record) → 0 ≡ length rs → rs ≡ []
 no-records [] h = refl
 no-records (r ∷ rs) h = absurd (omega arith)
 
-module _ (w l : List ℕ) (p lo b top low loose : ℕ) (ready : NodeReady w l p lo b top low loose) where
-  module _ (to count first end : ℕ) (x : Extends w p lo b to count first end) where
+module _ {w l : List ℕ} {p lo b top low loose : ℕ} (ready : NodeReady w l p lo b top low loose) where
+  module _ {to count first end : ℕ} (x : Extends w p lo b to count first end) where
     abbrev held : List Record
     held = held-in w to (p - to)
 
@@ -61,7 +61,7 @@ module _ (w l : List ℕ) (p lo b top low loose : ℕ) (ready : NodeReady w l p 
       pub node-inside : top + 10 ≤ length l
       node-inside = omega (arith, node-room, ready .inside)
 
-      module _ (start len : ℕ) (es : start ≡ getD w (first * 4 + 1) 0) (el : len ≡ end - start) (lone : Bool) (et : lone ≡ (eqb count 1 && ltb 65535 len)) where
+      module _ {start len : ℕ} (es : start ≡ getD w (first * 4 + 1) 0) (el : len ≡ end - start) {lone : Bool} (et : lone ≡ (eqb count 1 && ltb 65535 len)) where
         abbrev fi : ℕ
         fi = getD w (first * 4) 0
 
@@ -93,10 +93,10 @@ module _ (w l : List ℕ) (p lo b top low loose : ℕ) (ready : NodeReady w l p 
             omega (arith, el, a, es)
 
         -- one held alone and too long
-        pub took-leaf : lone ≡ true → (id : ℕ) → id ≡ fi → (l′ : List ℕ) (made : ℕ) → PushedTree l l′ top 1 id start len 0 loose made
+        pub took-leaf : lone ≡ true → {id : ℕ} → id ≡ fi → {l′ : List ℕ} {made : ℕ} → PushedTree l l′ top 1 id start len 0 loose made
             → TookFlat w l l′ p lo b top low loose to (top + 10) low made
         unfolding kind id-word
-        took-leaf yes-it id ei l′ made t = record {
+        took-leaf yes-it {id} ei {l′} t = record {
           above = x .above;
           further = x .further (ready .some-record);
           grown = omega arith;
@@ -118,8 +118,10 @@ module _ (w l : List ℕ) (p lo b top low loose : ℕ) (ready : NodeReady w l p 
               let so : Sorted (ready .T) (ready .s) (ready .e) (from-back w lo ((p - to) + (to - lo))) = rw a at (ready .sorted) in
               let (hi, rest, he) = sorted-held w (ready .T) (ready .s) (ready .e) lo (p - to) (to - lo) so in
               let he′ : Held (ready .T) hi (ready .e) (rec fi fs fe fn ∷ more) = rw (c, head-is) at he in
+              let stop : ℕ = held-end 0 (rec fi fs fe fn ∷ more) - b in
               rw (es, head-is)
-              (short-part (ready .T) (ready .types) b (ready .bound) fi fs fe fn (held-end 0 (rec fi fs fe fn ∷ more) - b) hi (ready .e) more count len lone counted et len-is no-it he′ (rw head-is at (x .room)))
+              (short-part (ready .T) (ready .types) b (ready .bound) fi fs fe fn stop hi (ready .e) more count len lone counted et len-is no-it
+              he′ (rw head-is at (x .room)))
 
           pub stage-ready : StageReady w l p to start count low
           stage-ready = record {
@@ -132,19 +134,16 @@ module _ (w l : List ℕ) (p lo b top low loose : ℕ) (ready : NodeReady w l p 
             inside = ready .inside;
           }
 
-          module _ (l₁ : List ℕ) (from : ℕ) (st : StagedFlat w l l₁ p to start low from) where
+          module _ {l₁ : List ℕ} {from : ℕ} (st : StagedFlat w l l₁ p to start low from) where
             pub staged-room : top + 10 ≤ from
             staged-room = omega (arith, node-room, st .address, x .counted)
 
-            pub staged-inside : top + 10 ≤ length l₁
-            staged-inside = omega (arith, node-inside, st .kept .size)
+            pub staged-ready : (top + 10 ≤ length l₁) × Readable l₁ loose
+            staged-ready = (omega (arith, node-inside, st .kept .size), λ z. omega (arith, ready .readable z, st .kept .size))
 
-            pub staged-readable : Readable l₁ loose
-            staged-readable z = omega (arith, ready .readable z, st .kept .size)
-
-            pub took-part : (words : ℕ) → words ≡ count * 4 → (l₂ : List ℕ) (made : ℕ) → PushedPart l₁ l₂ top start len from words loose made
+            pub took-part : {words : ℕ} → words ≡ count * 4 → {l₂ : List ℕ} {made : ℕ} → PushedPart l₁ l₂ top start len from words loose made
                 → TookFlat w l l₂ p lo b top low loose to (top + 10) from made
-            took-part words ew l₂ made t = record {
+            took-part ew t = record {
               above = x .above;
               further = x .further (ready .some-record);
               grown = omega arith;

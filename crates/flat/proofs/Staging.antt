@@ -18,7 +18,7 @@ same-down l l₁ l₂ b a low h k s t =
     same-then l l₁ l₂ 0 b low (same-less l l₁ 0 a low 0 b low (omega arith) h (omega arith) s) (same-less l₁ l₂ 0 b a 0 b low (omega arith) (omega arith) k t)
 
 -- four words
-module _ (w l l₁ l₂ l₃ l₄ : List ℕ) (j q index low from to id v₁ v₂ a b c r : ℕ) where
+module _ {w l l₁ l₂ l₃ l₄ : List ℕ} {j q index low from to id v₁ v₂ a b c r : ℕ} where
   pub staged-record : v₁ ≡ getD w (j * 4 + 1) 0 → from ≡ v₁ - q → v₂ ≡ getD w (j * 4 + 2) 0 → to ≡ v₂ - q → id ≡ getD w (j * 4) 0
       → StagedMore l l₁ low index a → StagedMore l₁ l₂ a to b → StagedMore l₂ l₃ b from c → StagedMore l₃ l₄ c id r → StagedRecord w l l₄ j q index low r
   staged-record e₁ f₁ e₂ f₂ e₃ s₁ s₂ s₃ s₄ =
@@ -87,7 +87,7 @@ module _ (w : List ℕ) (to at : ℕ) (some-record : to < at) where
       let none-more : length (hold (record-at w (at - 1)) []) ≡ 0 = ap (λ (rs : List Record). length rs) (hold-none i s e n [] h) in
       omega (arith, split-last, none-more)
 
-module _ (w l : List ℕ) (p to q count low : ℕ) (ready : StageReady w l p to q count low) where
+module _ {w l : List ℕ} {p to q count low : ℕ} (ready : StageReady w l p to q count low) where
   -- the held ones from `at` on are staged, and `left` words are still to come
   pub record Staging (at left below : ℕ) (l′ : List ℕ) : Type 0 where
     pub above : to ≤ at
@@ -115,7 +115,7 @@ module _ (w l : List ℕ) (p to q count low : ℕ) (ready : StageReady w l p to 
         });
       }
 
-  module _ (at left below : ℕ) (l′ : List ℕ) (h : Staging at left below l′) where
+  module _ {at left below : ℕ} {l′ : List ℕ} (h : Staging at left below l′) where
     pub staging-place : to < at → (at - 1) * 4 + 4 ≤ length w
     staging-place t = omega (arith, h .under, ready .within)
 
@@ -186,7 +186,7 @@ module _ (w l : List ℕ) (p to q count low : ℕ) (ready : StageReady w l p to 
         }
 
     -- the same by the numbers that the code has
-    module _ (some-record : to < at) (j v : ℕ) (ej : j ≡ at - 1) (ev : v ≡ getD w (j * 4 + 3) 0) where
+    module _ (some-record : to < at) {j v : ℕ} (ej : j ≡ at - 1) (ev : v ≡ getD w (j * 4 + 3) 0) where
       size-is : v ≡ n w to at some-record
       size-is = ev ∙ ap (λ (k : ℕ). getD w (k * 4 + 3) 0) ej
 
@@ -203,8 +203,8 @@ module _ (w l : List ℕ) (p to q count low : ℕ) (ready : StageReady w l p to 
         pub ready-at : RecordReady w l′ j q left below
         ready-at = rw ej (record-ready some-record small-at)
 
-        pub hold-at : (l″ : List ℕ) (r : ℕ) → StagedRecord w l′ l″ j q left below r → Staging j (left - 4) r l″
-        hold-at l″ r st = rw ej (staging-hold some-record small-at l″ r (rw ej at st))
+        pub hold-at : {l″ : List ℕ} {r : ℕ} → StagedRecord w l′ l″ j q left below r → Staging j (left - 4) r l″
+        hold-at {l″} {r} st = rw ej (staging-hold some-record small-at l″ r (rw ej at st))
 
     pub staging-end : at ≤ to → StagedFlat w l l′ p to q low below
     staging-end d =

@@ -8,10 +8,10 @@ use Rattle.tree.specs.Cells.{kind, id-word}
 use Rattle.store.specs.Store.{PushedTree}
 use Rattle.gathering.specs.Gathering.{Closed}
 
-pub closed : (w w′ : List ℕ) (top i s groups loose edge len made : ℕ) → len ≡ edge - s → PushedTree w w′ top 1 i s len loose groups made
+pub closed : {w w′ : List ℕ} {top i s groups loose edge len made : ℕ} → len ≡ edge - s → PushedTree w w′ top 1 i s len loose groups made
     → Closed w w′ top i s groups loose edge (top + 10) made 0 s
 unfolding close kind id-word
-closed w w′ top i s groups loose edge len made el q = record {
+closed {i = i} el q = record {
   top-is = refl;
   kept = q .kept;
   holds = λ base low g live above free h. record {

@@ -44,11 +44,11 @@ unfolding id-word
 id-some i = refl
 
 -- groups to be balanced
-module _ (w : List ℕ) (stack top i s e groups next : ℕ) where
+module _ {w : List ℕ} {stack top i s e groups next : ℕ} where
   pub groups-node : GroupsReady w stack top i s e groups next → Readable w groups
   groups-node p = readable w (p .base) top (p .low) groups (p .us) (omega (arith, p .room, p .under, p .inside)) (p .holds)
 
-  module _ (k : ℕ) (ek : k ≡ told w groups 8) where
+  module _ {k : ℕ} (ek : k ≡ told w groups 8) where
     pub counted : (p : GroupsReady w stack top i s e groups next) → siblings (p .us) ≡ k
     counted p =
         omega (arith, ek ∙ tells-trees w (p .base) top (p .low) groups (p .us) (p .holds), siblings-total (some i) (p .us), p .room, p .under, p .fits)
@@ -73,7 +73,7 @@ module _ (w : List ℕ) (stack top i s e groups next : ℕ) where
       ends = p .ends;
     }
 
-    module _ (size : ℕ) (es : (p : Row w groups k 1 i) → size ≡ total (p .type) (p .us)) where
+    module _ {size : ℕ} (es : (p : Row w groups k 1 i) → size ≡ total (p .type) (p .us)) where
       abbrev pub groups-ready : GroupsReady w stack top i s e groups next → BalanceReady w top stack groups k 1 i 1 i size next
       groups-ready p = record {
         own = some i;
@@ -105,9 +105,9 @@ module _ (w : List ℕ) (stack top i s e groups next : ℕ) where
         };
       }
 
-      pub groups-balanced : (len : ℕ) → len ≡ e - s → (w′ : List ℕ) (rtop rnode : ℕ)
+      pub groups-balanced : {len : ℕ} → len ≡ e - s → {w′ : List ℕ} {rtop rnode : ℕ}
           → Balanced w w′ top stack groups k 1 i 1 i s len size next rtop rnode → GroupsBalanced w w′ stack top i s e groups next rtop rnode
-      groups-balanced len el w′ rtop rnode b = record {
+      groups-balanced el b = record {
         grown = b .grown;
         kept = b .kept;
         used = λ p. omega (arith, b .used, es (groups-row p));
@@ -161,30 +161,28 @@ nil-total nil h = absurd (omega arith)
 nil-total (tree t s l kids rest) h = refl
 nil-total (part s l ws rest) h = refl
 
-module _ (w : List ℕ) (stack top i s e groups loose edge next : ℕ) where
-  abbrev pub Ready : Type 0
-  Ready = FinishReady w stack top i s e groups loose edge next
-
-  pub finish-room : Ready → top + 34 ≤ length w
+module _ {w : List ℕ} {stack top i s e groups loose edge next : ℕ} where
+  pub finish-room : FinishReady w stack top i s e groups loose edge next → top + 34 ≤ length w
   finish-room p = omega (arith, p .room, p .under, p .inside)
 
-  pub finish-fits : Ready → top + 34 ≤ 4294967295
+  pub finish-fits : FinishReady w stack top i s e groups loose edge next → top + 34 ≤ 4294967295
   finish-fits p = omega (arith, p .room, p .under, p .fits)
 
-  pub finish-loose-node : Ready → Readable w loose
+  pub finish-loose-node : FinishReady w stack top i s e groups loose edge next → Readable w loose
   finish-loose-node p = readable w (p .base) top (p .low) loose (p .g .loose) (omega (arith, finish-room p)) (p .holds .loose-at)
 
-  pub finish-groups-node : Ready → Readable w groups
+  pub finish-groups-node : FinishReady w stack top i s e groups loose edge next → Readable w groups
   finish-groups-node p = readable w (p .base) top (p .low) groups (p .g .groups) (omega (arith, finish-room p)) (p .holds .groups-at)
 
-  pub finish-next : Ready → Readable w next
+  pub finish-next : FinishReady w stack top i s e groups loose edge next → Readable w next
   finish-next p = readable w (p .base) top (p .low) next (p .rest) (omega (arith, finish-room p)) (p .onto)
 
   -- no groups
-  pub finished-loose : Ready → groups ≡ 0 → (len : ℕ) → len ≡ e - s → (w′ : List ℕ) (r : ℕ) → PushedTree w w′ top 1 i s len loose next r
+  pub finished-loose : FinishReady w stack top i s e groups loose edge next → groups ≡ 0 → {len : ℕ} → len ≡ e - s
+      → {w′ : List ℕ} {r : ℕ} → PushedTree w w′ top 1 i s len loose next r
       → Finished w w′ stack top i s e groups loose edge next (top + 10) r
   unfolding kind id-word
-  finished-loose q z len el w′ r t = record {
+  finished-loose q z el {w′} t = record {
     grown = omega arith;
     kept = same-less w w′ 0 top (top + 10) 0 top stack (omega arith) (omega arith) (omega (arith, q .room)) (t .kept);
     used = λ p. omega arith;
@@ -194,17 +192,17 @@ module _ (w : List ℕ) (stack top i s e groups loose edge next : ℕ) where
   }
 
   -- groups, after the children left over
-  module _ (left : groups ≡ 0 → ⊥) (w₁ : List ℕ) (rtop rgroups rloose redge : ℕ) (c : RestClosed w w₁ top i s groups loose edge rtop rgroups rloose redge) where
-    pub some-group : (p : Ready) → is-nil (p .g .groups) ≡ false
+  module _ (left : groups ≡ 0 → ⊥) {w₁ : List ℕ} {rtop rgroups rloose redge : ℕ} (c : RestClosed w w₁ top i s groups loose edge rtop rgroups rloose redge) where
+    pub some-group : (p : FinishReady w stack top i s e groups loose edge next) → is-nil (p .g .groups) ≡ false
     some-group p = some-at w (p .base) top (p .low) groups (p .g .groups) (p .holds .groups-at) left
 
-    pub due-own : (p : Ready) → due (repeats (p .F) i) (p .g) ≡ due (some i) (p .g)
+    pub due-own : (p : FinishReady w stack top i s e groups loose edge next) → due (repeats (p .F) i) (p .g) ≡ due (some i) (p .g)
     due-own p = ap (λ (own : Option ℕ). due own (p .g)) (own-repeat (p .F) i (p .g .groups) (p .plain) (some-group p))
 
-    pub room-closed : (p : Ready) → rtop + 24 * total (some i) ((rest-closed i s (p .g)) .groups) ≤ stack
+    pub room-closed : (p : FinishReady w stack top i s e groups loose edge next) → rtop + 24 * total (some i) ((rest-closed i s (p .g)) .groups) ≤ stack
     room-closed p = omega (arith, p .room, c .few, total-closed (some i) i s (p .g), due-own p)
 
-    abbrev pub balance-ready : Ready → GroupsReady w₁ stack rtop i s e rgroups next
+    abbrev pub balance-ready : FinishReady w stack top i s e groups loose edge next → GroupsReady w₁ stack rtop i s e rgroups next
     balance-ready p = record {
       base = p .base;
       low = p .low;
@@ -224,9 +222,10 @@ module _ (w : List ℕ) (stack top i s e groups loose edge next : ℕ) where
       room = room-closed p;
     }
 
-    pub finished-groups : Ready → (w₂ : List ℕ) (high rnode : ℕ) → GroupsBalanced w₁ w₂ stack rtop i s e rgroups next high rnode
+    pub finished-groups : FinishReady w stack top i s e groups loose edge next → {w₂ : List ℕ} {high rnode : ℕ}
+        → GroupsBalanced w₁ w₂ stack rtop i s e rgroups next high rnode
         → Finished w w₂ stack top i s e groups loose edge next high rnode
-    finished-groups q w₂ high rnode b = record {
+    finished-groups q b = record {
       grown = omega (arith, c .grown, b .grown);
       kept = record {
         size = b .kept .size ∙ c .kept .size;

@@ -45,10 +45,10 @@ nil-is ts e = rw e
 pub same-whole : (w : List ℕ) (top low : ℕ) → Same w w 0 top low
 same-whole w top low = record { size = refl; below = λ j l m. refl; above = λ j l. refl }
 
-module _ (w w′ : List ℕ) (top i e groups loose edge rtop rgroups rloose redge : ℕ) where
-  pub passed-close : (b : ℕ) → e + b ≤ edge → Closed w w′ top i e groups loose edge rtop rgroups rloose redge
+module _ {w w′ : List ℕ} {top i e groups loose edge rtop rgroups rloose redge : ℕ} where
+  pub passed-close : {b : ℕ} → e + b ≤ edge → Closed w w′ top i e groups loose edge rtop rgroups rloose redge
       → PassedOver w w′ top i e b groups loose edge rtop rgroups rloose redge
-  passed-close b h c = record {
+  passed-close {b} h c = record {
     grown = omega (arith, c .top-is);
     few = omega (arith, c .top-is);
     kept = c .kept;
@@ -66,9 +66,9 @@ module _ (w w′ : List ℕ) (top i e groups loose edge rtop rgroups rloose redg
         rw (rest-made i e g (some-at w base top low loose (g .loose) (p .loose-at) h), c .top-is) (c .holds base low g live above free p);
   }
 
-module _ (w : List ℕ) (top i e groups loose edge : ℕ) where
-  pub passed-on : (b : ℕ) → edge < e + b → PassedOver w w top i e b groups loose edge top groups loose edge
-  passed-on b h = record {
+module _ {w : List ℕ} {top i e groups loose edge : ℕ} where
+  pub passed-on : {b : ℕ} → edge < e + b → PassedOver w w top i e b groups loose edge top groups loose edge
+  passed-on {b} h = record {
     grown = omega arith;
     few = omega arith;
     kept = same-whole w top (top + 10);

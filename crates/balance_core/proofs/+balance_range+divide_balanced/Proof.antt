@@ -83,7 +83,7 @@ divide-calls t = (
 abbrev divide-balanced-Inv-loop : divide-balanced-lts.InvT-loop
 divide-balanced-Inv-loop work₀ top stack node k kind id m size next high₀ done₀ left₀ sp₀ work high done left sp =
     (w : List ℕ) (p : DivideReady w top stack node k kind id m size next) → Pushed w work₀ stack node k kind id m sp₀
-    → (gs : List Trees) × (ts : Trees) × L.Dividing w top stack node k kind id m size next p work high done left sp gs ts
+    → (gs : List Trees) × (ts : Trees) × L.Dividing p work high done left sp gs ts
 
 abbrev divide-balanced-μ-loop : divide-balanced-lts.MeasureT-loop
 divide-balanced-μ-loop work₀ top stack node k kind id m size next high₀ done₀ left₀ sp₀ work high done left sp = left
@@ -94,32 +94,33 @@ balance-range-share-of-requires t c κs = search needs
 balance-range-divide-balanced-requires : (t : ℕ) → balance-range-lts.Need-divide-balanced-requires (range-calls t) (balance-range-at t) balance-range.Post
 balance-range-divide-balanced-requires t c κs =
     let s = c .before .before .before in
-    (omega (arith, s .pre .0), inner-ready (now (s .args .work)) (s .args .top) (s .args .stack) (s .args .node) (s .args .k) (s .args .kind) (s .args .id) (s .args .parent .kind) (s .args .parent .id) (s .args .size) (s .args .next) (c .before .share-of .result) (c .before .share-of .ensures) (s .pre .1))
+    (omega (arith, s .pre .0), inner-ready (c .before .share-of .ensures) (s .pre .1))
 
 balance-range-join-requires : (t : ℕ) → balance-range-lts.Need-join-requires (range-calls t) (balance-range-at t) balance-range.Post
 balance-range-join-requires t c κs =
-    let s = c .before .before .before .before .before .before .before in
-    let d = c .before .before .before .divide-balanced in
-    join-ready (now (s .args .work)) (s .args .top) (s .args .stack) (s .args .node) (s .args .k) (s .args .kind) (s .args .id) (s .args .parent .kind) (s .args .parent .id) (s .args .size) (s .args .next) (c .before .before .before .before .before .share-of .result) (c .before .before .before .before .before .share-of .ensures) (d .last .0) (d .result .top) (d .result .node) (d .ensures) (s .pre .1)
+    let divided = c .before .before .before in
+    let shared = divided .before .before in
+    join-ready (shared .share-of .ensures) (divided .divide-balanced .ensures) (shared .before .before .pre .1)
 
 balance-range-same-length : (t : ℕ) → balance-range-lts.Need-same-length (range-calls t) (balance-range-at t) balance-range.Post
 balance-range-same-length t c = c .before .before .join .ensures .kept .size ∙ c .before .before .before .before .before .before .divide-balanced .ensures .kept .size
 
 balance-range-returns : (t : ℕ) → balance-range-lts.Need-returns (range-calls t) (balance-range-at t) balance-range.Post
 balance-range-returns t c =
-    let s = c .before .before .before .before .before .before .before .before .before .before in
-    let d = c .before .before .before .before .before .before .divide-balanced in
-    let j = c .before .before .join in
-    balanced (now (s .args .work)) (s .args .top) (s .args .stack) (s .args .node) (s .args .k) (s .args .kind) (s .args .id) (s .args .parent .kind) (s .args .parent .id) (s .args .size) (s .args .next) (c .before .before .before .before .before .before .before .before .share-of .result) (c .before .before .before .before .before .before .before .before .share-of .ensures) (d .last .0) (d .result .top) (d .result .node) (d .ensures) (s .pre .1) (s .args .parent .start) (s .args .parent .length) (j .last .0) (j .result .top) (j .result .node) (j .ensures)
+    let joined = c .before .before in
+    let divided = joined .before .before .before .before in
+    let shared = divided .before .before in
+    balanced (shared .share-of .ensures) (divided .divide-balanced .ensures) (shared .before .before .pre .1) (joined .join .ensures)
 
-divide-balanced-push-groups-requires : (t : ℕ) → divide-balanced-lts.Need-push-groups-requires (divide-calls t) (divide-balanced-at t) divide-balanced.Post divide-balanced-Inv-loop divide-balanced-μ-loop
-divide-balanced-push-groups-requires t c κs = let s = c .before .before in L.first-ready (now (s .args .work)) (s .args .top) (s .args .stack) (s .args .node) (s .args .k) (s .args .kind) (s .args .id) (s .args .m) (s .args .size) (s .args .next) (s .pre .1)
+divide-balanced-push-groups-requires : (t : ℕ)
+    → divide-balanced-lts.Need-push-groups-requires (divide-calls t) (divide-balanced-at t) divide-balanced.Post divide-balanced-Inv-loop divide-balanced-μ-loop
+divide-balanced-push-groups-requires t c κs = let s = c .before .before in L.first-ready (s .pre .1)
 
-divide-balanced-loop-holds : (t : ℕ) → divide-balanced-lts.Need-loop-holds (divide-calls t) (divide-balanced-at t) divide-balanced.Post divide-balanced-Inv-loop divide-balanced-μ-loop
+divide-balanced-loop-holds : (t : ℕ)
+    → divide-balanced-lts.Need-loop-holds (divide-calls t) (divide-balanced-at t) divide-balanced.Post divide-balanced-Inv-loop divide-balanced-μ-loop
 divide-balanced-loop-holds t c = λ w p h.
     let s = c .before .before .before .before .before in
-    let g = c .before .before .push-groups in
-    (stacked (groups (p .type) (s .args .m) (p .us)) [], p .rest, L.dividing-start w (s .args .top) (s .args .stack) (s .args .node) (s .args .k) (s .args .kind) (s .args .id) (s .args .m) (s .args .size) (s .args .next) p (g .last .0) (g .result) h)
+    (stacked (groups (p .type) (s .args .m) (p .us)) [], p .rest, L.dividing-start p h)
 
 -- in the loop a group waits
 module _ (t : ℕ) (i : divide-balanced-lts.In-loop (divide-calls t) (divide-balanced-at t) divide-balanced.Post divide-balanced-Inv-loop divide-balanced-μ-loop) where
@@ -133,10 +134,13 @@ module _ (t : ℕ) (i : divide-balanced-lts.In-loop (divide-calls t) (divide-bal
   Ready w = DivideReady w (s₁ .args .top) (s₁ .args .stack) (s₁ .args .node) (s₁ .args .k) (s₁ .args .kind) (s₁ .args .id) (s₁ .args .m) (s₁ .args .size) (s₁ .args .next)
 
   abbrev Put : List ℕ → Type 0
-  Put w = Pushed w (a₁ .before .before .before .push-groups .last .0) (s₁ .args .stack) (s₁ .args .node) (s₁ .args .k) (s₁ .args .kind) (s₁ .args .id) (s₁ .args .m) (a₁ .before .before .before .push-groups .result)
+  Put w =
+      let put = a₁ .before .before .before .push-groups in
+      Pushed w (put .last .0) (s₁ .args .stack) (s₁ .args .node) (s₁ .args .k) (s₁ .args .kind) (s₁ .args .id) (s₁ .args .m) (put .result)
 
-  abbrev some : (w : List ℕ) (p : Ready w) (h : Put w) → (g : Trees) × (below : List Trees) × L.Dividing w (s₁ .args .top) (s₁ .args .stack) (s₁ .args .node) (s₁ .args .k) (s₁ .args .kind) (s₁ .args .id) (s₁ .args .m) (s₁ .args .size) (s₁ .args .next) p (a₁ .loop .work) (a₁ .loop .high) (a₁ .loop .done) (a₁ .loop .left) (a₁ .loop .sp) (g ∷ below) (a₁ .loop .inv w p h .1)
-  some w p h = let x = a₁ .loop .inv w p h in L.dividing-some w (s₁ .args .top) (s₁ .args .stack) (s₁ .args .node) (s₁ .args .k) (s₁ .args .kind) (s₁ .args .id) (s₁ .args .m) (s₁ .args .size) (s₁ .args .next) p (a₁ .loop .work) (a₁ .loop .high) (a₁ .loop .done) (a₁ .loop .left) (a₁ .loop .sp) (x .0) (x .1) (x .2) (i .loop-test .taken)
+  abbrev some : (w : List ℕ) (p : Ready w) (h : Put w) → (g : Trees) × (below : List Trees)
+      × L.Dividing p (a₁ .loop .work) (a₁ .loop .high) (a₁ .loop .done) (a₁ .loop .left) (a₁ .loop .sp) (g ∷ below) (a₁ .loop .inv w p h .1)
+  some w p h = let x = a₁ .loop .inv w p h in L.dividing-some p (x .2) (i .loop-test .taken)
 
   abbrev w₁ : List ℕ
   w₁ = now (s₁ .args .work)
@@ -148,10 +152,10 @@ module _ (t : ℕ) (i : divide-balanced-lts.In-loop (divide-calls t) (divide-bal
   h₁ = a₁ .before .before .before .push-groups .ensures
 
   read-at : a₁ .loop .sp + 4 ≤ lib.ListN.length (a₁ .loop .work)
-  read-at = let x = some w₁ p₁ h₁ in L.inside-sp w₁ (s₁ .args .top) (s₁ .args .stack) (s₁ .args .node) (s₁ .args .k) (s₁ .args .kind) (s₁ .args .id) (s₁ .args .m) (s₁ .args .size) (s₁ .args .next) p₁ (a₁ .loop .work) (a₁ .loop .high) (a₁ .loop .done) (a₁ .loop .left) (a₁ .loop .sp) (x .0) (x .1) (a₁ .loop .inv w₁ p₁ h₁ .1) (x .2)
+  read-at = L.inside-sp p₁ (some w₁ p₁ h₁ .2)
 
   fits-at : a₁ .loop .sp + 4 ≤ 4294967295
-  fits-at = let x = some w₁ p₁ h₁ in L.fits-sp w₁ (s₁ .args .top) (s₁ .args .stack) (s₁ .args .node) (s₁ .args .k) (s₁ .args .kind) (s₁ .args .id) (s₁ .args .m) (s₁ .args .size) (s₁ .args .next) p₁ (a₁ .loop .work) (a₁ .loop .high) (a₁ .loop .done) (a₁ .loop .left) (a₁ .loop .sp) (x .0) (x .1) (a₁ .loop .inv w₁ p₁ h₁ .1) (x .2)
+  fits-at = L.fits-sp p₁ (some w₁ p₁ h₁ .2)
 
 -- where its words are read
 module _ (t : ℕ) (e : divide-balanced-lts.After-group-at (divide-calls t) (divide-balanced-at t) divide-balanced.Post divide-balanced-Inv-loop divide-balanced-μ-loop) where
@@ -182,152 +186,162 @@ module _ (t : ℕ) (e : divide-balanced-lts.After-group-at (divide-calls t) (div
   abbrev sum₂ : ℕ
   sum₂ = e .group-at .result .size
 
-  abbrev end₂ : ℕ
-  end₂ = e .group-at .result .end
-
   sum-some-at : 1 ≤ sum₂
-  sum-some-at = let x = some t i₂ w₂ p₂ h₂ in L.sum-some w₂ (s₂ .args .top) (s₂ .args .stack) (s₂ .args .node) (s₂ .args .k) (s₂ .args .kind) (s₂ .args .id) (s₂ .args .m) (s₂ .args .size) (s₂ .args .next) p₂ (a₂ .loop .work) (a₂ .loop .high) (a₂ .loop .done) (a₂ .loop .left) (a₂ .loop .sp) (x .0) (x .1) (a₂ .loop .inv w₂ p₂ h₂ .1) (x .2) first₂ count₂ sum₂ end₂ (e .group-at .ensures)
+  sum-some-at = L.sum-some p₂ (some t i₂ w₂ p₂ h₂ .2) (e .group-at .ensures)
 
   sum-le-at : sum₂ ≤ a₂ .loop .left
-  sum-le-at = let x = some t i₂ w₂ p₂ h₂ in L.sum-le w₂ (s₂ .args .top) (s₂ .args .stack) (s₂ .args .node) (s₂ .args .k) (s₂ .args .kind) (s₂ .args .id) (s₂ .args .m) (s₂ .args .size) (s₂ .args .next) p₂ (a₂ .loop .work) (a₂ .loop .high) (a₂ .loop .done) (a₂ .loop .left) (a₂ .loop .sp) (x .0) (x .1) (a₂ .loop .inv w₂ p₂ h₂ .1) (x .2) first₂ count₂ sum₂ end₂ (e .group-at .ensures)
+  sum-le-at = L.sum-le p₂ (some t i₂ w₂ p₂ h₂ .2) (e .group-at .ensures)
 
   sum-small-at : (count₂ ≡ 1 → ⊥) → sum₂ < s₂ .args .size
-  sum-small-at = let x = some t i₂ w₂ p₂ h₂ in L.sum-small w₂ (s₂ .args .top) (s₂ .args .stack) (s₂ .args .node) (s₂ .args .k) (s₂ .args .kind) (s₂ .args .id) (s₂ .args .m) (s₂ .args .size) (s₂ .args .next) p₂ (a₂ .loop .work) (a₂ .loop .high) (a₂ .loop .done) (a₂ .loop .left) (a₂ .loop .sp) (x .0) (x .1) (a₂ .loop .inv w₂ p₂ h₂ .1) (x .2) first₂ count₂ sum₂ end₂ (e .group-at .ensures)
+  sum-small-at = L.sum-small p₂ (some t i₂ w₂ p₂ h₂ .2) (e .group-at .ensures)
 
   node-at : first₂ + 10 ≤ lib.ListN.length (a₂ .loop .work)
-  node-at = let x = some t i₂ w₂ p₂ h₂ in L.node-inside w₂ (s₂ .args .top) (s₂ .args .stack) (s₂ .args .node) (s₂ .args .k) (s₂ .args .kind) (s₂ .args .id) (s₂ .args .m) (s₂ .args .size) (s₂ .args .next) p₂ (a₂ .loop .work) (a₂ .loop .high) (a₂ .loop .done) (a₂ .loop .left) (a₂ .loop .sp) (x .0) (x .1) (a₂ .loop .inv w₂ p₂ h₂ .1) (x .2) first₂ count₂ sum₂ end₂ (e .group-at .ensures)
+  node-at = L.node-inside p₂ (some t i₂ w₂ p₂ h₂ .2) (e .group-at .ensures)
 
-divide-balanced-group-at-requires : (t : ℕ) → divide-balanced-lts.Need-group-at-requires (divide-calls t) (divide-balanced-at t) divide-balanced.Post divide-balanced-Inv-loop divide-balanced-μ-loop
+divide-balanced-group-at-requires : (t : ℕ)
+    → divide-balanced-lts.Need-group-at-requires (divide-calls t) (divide-balanced-at t) divide-balanced.Post divide-balanced-Inv-loop divide-balanced-μ-loop
 divide-balanced-group-at-requires t c κs = read-at t (c .before)
 
-divide-balanced-add-sp : (t : ℕ) → divide-balanced-lts.Need-add-sp (divide-calls t) (divide-balanced-at t) divide-balanced.Post divide-balanced-Inv-loop divide-balanced-μ-loop
+divide-balanced-add-sp : (t : ℕ)
+    → divide-balanced-lts.Need-add-sp (divide-calls t) (divide-balanced-at t) divide-balanced.Post divide-balanced-Inv-loop divide-balanced-μ-loop
 divide-balanced-add-sp t c = omega (arith, fits-at t (c .before .before))
 
-divide-balanced-word-at-requires : (t : ℕ) → divide-balanced-lts.Need-word-at-requires (divide-calls t) (divide-balanced-at t) divide-balanced.Post divide-balanced-Inv-loop divide-balanced-μ-loop
+divide-balanced-word-at-requires : (t : ℕ)
+    → divide-balanced-lts.Need-word-at-requires (divide-calls t) (divide-balanced-at t) divide-balanced.Post divide-balanced-Inv-loop divide-balanced-μ-loop
 divide-balanced-word-at-requires t c κs = (node-at t (c .before .before .before .before .before), omega arith)
 
-divide-balanced-tell-requires : (t : ℕ) → divide-balanced-lts.Need-tell-requires (divide-calls t) (divide-balanced-at t) divide-balanced.Post divide-balanced-Inv-loop divide-balanced-μ-loop
+divide-balanced-tell-requires : (t : ℕ)
+    → divide-balanced-lts.Need-tell-requires (divide-calls t) (divide-balanced-at t) divide-balanced.Post divide-balanced-Inv-loop divide-balanced-μ-loop
 divide-balanced-tell-requires t c κs =
-    let e = c .before .before .before .before .before .before .before in
-    let a = a₂ t e in
-    let s = s₂ t e in
-    let g = e .group-at .result in
-    let w = w₂ t e in
-    let q = p₂ t e in
-    let h = h₂ t e in
-    let x = some t (i₂ t e) w q h in
-    (L.kids-read w (s .args .top) (s .args .stack) (s .args .node) (s .args .k) (s .args .kind) (s .args .id) (s .args .m) (s .args .size) (s .args .next) q (a .loop .work) (a .loop .high) (a .loop .done) (a .loop .left) (a .loop .sp) (x .0) (x .1) (a .loop .inv w q h .1) (x .2) (g .node) (g .count) (g .size) (g .end) (e .group-at .ensures) (c .before .before .before .before .before .if1 .taken) (c .before .before .before .if2 .taken) (c .before .word-at .result) 0 (c .before .word-at .ensures), omega arith)
+    let kids-read = c .before in
+    let above-share = kids-read .before .before in
+    let lone = above-share .before .before in
+    let e = lone .before .before in
+    let x = some t (i₂ t e) (w₂ t e) (p₂ t e) (h₂ t e) in
+    (L.kids-read (p₂ t e) (x .2) (e .group-at .ensures) (lone .if1 .taken) (above-share .if2 .taken) (kids-read .word-at .ensures), omega arith)
 
-divide-balanced-push-groups-requires-2 : (t : ℕ) → divide-balanced-lts.Need-push-groups-requires-2 (divide-calls t) (divide-balanced-at t) divide-balanced.Post divide-balanced-Inv-loop divide-balanced-μ-loop
+divide-balanced-push-groups-requires-2 : (t : ℕ)
+    → divide-balanced-lts.Need-push-groups-requires-2 (divide-calls t) (divide-balanced-at t) divide-balanced.Post divide-balanced-Inv-loop divide-balanced-μ-loop
 divide-balanced-push-groups-requires-2 t c κs =
-    let e = c .before .before .before .before .before .before .before .before .before in
-    let a = a₂ t e in
-    let s = s₂ t e in
-    let g = e .group-at .result in
-    let w = w₂ t e in
-    let q = p₂ t e in
-    let h = h₂ t e in
-    let x = some t (i₂ t e) w q h in
-    L.kids-ready w (s .args .top) (s .args .stack) (s .args .node) (s .args .k) (s .args .kind) (s .args .id) (s .args .m) (s .args .size) (s .args .next) q (a .loop .work) (a .loop .high) (a .loop .done) (a .loop .left) (a .loop .sp) (x .0) (x .1) (a .loop .inv w q h .1) (x .2) (g .node) (g .count) (g .size) (g .end) (e .group-at .ensures) (c .before .before .before .before .before .before .before .if1 .taken) (c .before .before .before .before .before .if2 .taken) (c .before .before .before .word-at .result) (c .before .tell .result) (c .before .before .before .word-at .ensures) (c .before .tell .ensures)
+    let counted = c .before in
+    let kids-read = counted .before .before in
+    let above-share = kids-read .before .before in
+    let lone = above-share .before .before in
+    let e = lone .before .before in
+    let x = some t (i₂ t e) (w₂ t e) (p₂ t e) (h₂ t e) in
+    L.kids-ready (p₂ t e) (x .2) (e .group-at .ensures) (lone .if1 .taken) (above-share .if2 .taken) (kids-read .word-at .ensures) (counted .tell .ensures)
 
-divide-balanced-sub-left : (t : ℕ) → divide-balanced-lts.Need-sub-left (divide-calls t) (divide-balanced-at t) divide-balanced.Post divide-balanced-Inv-loop divide-balanced-μ-loop
+divide-balanced-sub-left : (t : ℕ)
+    → divide-balanced-lts.Need-sub-left (divide-calls t) (divide-balanced-at t) divide-balanced.Post divide-balanced-Inv-loop divide-balanced-μ-loop
 divide-balanced-sub-left t c = omega (arith, c .before .before .before .before .before .before .before .before .before .before .before .before .before .before .loop-test .taken)
 
-divide-balanced-loop-less : (t : ℕ) → divide-balanced-lts.Need-loop-less (divide-calls t) (divide-balanced-at t) divide-balanced.Post divide-balanced-Inv-loop divide-balanced-μ-loop
+divide-balanced-loop-less : (t : ℕ)
+    → divide-balanced-lts.Need-loop-less (divide-calls t) (divide-balanced-at t) divide-balanced.Post divide-balanced-Inv-loop divide-balanced-μ-loop
 divide-balanced-loop-less t c = omega (arith, c .before .before .before .before .before .before .before .before .before .before .before .before .before .before .loop-test .taken)
 
-divide-balanced-loop-again : (t : ℕ) → divide-balanced-lts.Need-loop-again (divide-calls t) (divide-balanced-at t) divide-balanced.Post divide-balanced-Inv-loop divide-balanced-μ-loop
+divide-balanced-loop-again : (t : ℕ)
+    → divide-balanced-lts.Need-loop-again (divide-calls t) (divide-balanced-at t) divide-balanced.Post divide-balanced-Inv-loop divide-balanced-μ-loop
 divide-balanced-loop-again t c = λ w p h.
-    let e = c .before .before .before .before .before .before .before .before .before .before .before .before in
-    let a = a₂ t e in
-    let s = s₂ t e in
-    let g = e .group-at .result in
-    let x = some t (i₂ t e) w p h in
-    let r = c .before .before .push-groups2 in (
-      stacked (groups (p .type) (s .args .m) (kids-of (x .0))) (x .1),
-      a .loop .inv w p h .1,
-      L.dividing-inner w (s .args .top) (s .args .stack) (s .args .node) (s .args .k) (s .args .kind) (s .args .id) (s .args .m) (s .args .size) (s .args .next) p (a .loop .work) (a .loop .high) (a .loop .done) (a .loop .left) (a .loop .sp) (x .0) (x .1) (a .loop .inv w p h .1) (x .2) (g .node) (g .count) (g .size) (g .end) (e .group-at .ensures) (c .before .before .before .before .before .before .before .before .before .before .if1 .taken) (c .before .before .before .before .before .before .before .before .if2 .taken) (c .before .before .before .before .before .before .word-at .result) (c .before .before .before .before .tell .result) (c .before .before .before .before .before .before .word-at .ensures) (c .before .before .before .before .tell .ensures) (r .last .0) (r .result) (r .ensures),
+    let pushed = c .before .before in
+    let counted = pushed .before .before in
+    let kids-read = counted .before .before in
+    let above-share = kids-read .before .before in
+    let lone = above-share .before .before in
+    let e = lone .before .before in
+    let x = some t (i₂ t e) w p h in (
+      stacked (groups (p .type) (s₂ t e .args .m) (kids-of (x .0))) (x .1),
+      a₂ t e .loop .inv w p h .1,
+      L.dividing-inner p (x .2) (e .group-at .ensures) (lone .if1 .taken) (above-share .if2 .taken) (kids-read .word-at .ensures)
+          (counted .tell .ensures) (pushed .push-groups2 .ensures),
     )
 
-divide-balanced-copy-requires : (t : ℕ) → divide-balanced-lts.Need-copy-requires (divide-calls t) (divide-balanced-at t) divide-balanced.Post divide-balanced-Inv-loop divide-balanced-μ-loop
+divide-balanced-copy-requires : (t : ℕ)
+    → divide-balanced-lts.Need-copy-requires (divide-calls t) (divide-balanced-at t) divide-balanced.Post divide-balanced-Inv-loop divide-balanced-μ-loop
 divide-balanced-copy-requires t c κs =
-    let e = c .before .before .before .before .before in
-    let a = a₂ t e in
-    let s = s₂ t e in
-    let g = e .group-at .result in
-    let w = w₂ t e in
-    let q = p₂ t e in
-    let h = h₂ t e in
-    let x = some t (i₂ t e) w q h in
-    L.copy-ready w (s .args .top) (s .args .stack) (s .args .node) (s .args .k) (s .args .kind) (s .args .id) (s .args .m) (s .args .size) (s .args .next) q (a .loop .work) (a .loop .high) (a .loop .done) (a .loop .left) (a .loop .sp) (x .0) (x .1) (a .loop .inv w q h .1) (x .2) (g .node) (g .count) (g .size) (g .end) (e .group-at .ensures) (c .before .before .before .if1 .taken) (c .before .if2 .left)
+    let lone = c .before .before .before in
+    let e = lone .before .before in
+    let x = some t (i₂ t e) (w₂ t e) (p₂ t e) (h₂ t e) in
+    L.copy-ready (p₂ t e) (x .2) (e .group-at .ensures) (lone .if1 .taken) (c .before .if2 .left)
 
-divide-balanced-sub-left-2 : (t : ℕ) → divide-balanced-lts.Need-sub-left-2 (divide-calls t) (divide-balanced-at t) divide-balanced.Post divide-balanced-Inv-loop divide-balanced-μ-loop
+divide-balanced-sub-left-2 : (t : ℕ)
+    → divide-balanced-lts.Need-sub-left-2 (divide-calls t) (divide-balanced-at t) divide-balanced.Post divide-balanced-Inv-loop divide-balanced-μ-loop
 divide-balanced-sub-left-2 t c = sum-le-at t (c .before .before .before .before .before .before .before .before .before)
 
-divide-balanced-loop-less-2 : (t : ℕ) → divide-balanced-lts.Need-loop-less-2 (divide-calls t) (divide-balanced-at t) divide-balanced.Post divide-balanced-Inv-loop divide-balanced-μ-loop
+divide-balanced-loop-less-2 : (t : ℕ)
+    → divide-balanced-lts.Need-loop-less-2 (divide-calls t) (divide-balanced-at t) divide-balanced.Post divide-balanced-Inv-loop divide-balanced-μ-loop
 divide-balanced-loop-less-2 t c = let e = c .before .before .before .before .before .before .before .before .before in omega (arith, sum-le-at t e, sum-some-at t e)
 
-divide-balanced-loop-again-2 : (t : ℕ) → divide-balanced-lts.Need-loop-again-2 (divide-calls t) (divide-balanced-at t) divide-balanced.Post divide-balanced-Inv-loop divide-balanced-μ-loop
+divide-balanced-loop-again-2 : (t : ℕ)
+    → divide-balanced-lts.Need-loop-again-2 (divide-calls t) (divide-balanced-at t) divide-balanced.Post divide-balanced-Inv-loop divide-balanced-μ-loop
 divide-balanced-loop-again-2 t c = λ w p h.
-    let e = c .before .before .before .before .before .before .before .before .before in
-    let a = a₂ t e in
-    let s = s₂ t e in
-    let g = e .group-at .result in
-    let x = some t (i₂ t e) w p h in
-    let r = c .before .before .before .copy in
-    (x .1, x .0 ⊕ a .loop .inv w p h .1, L.dividing-kept w (s .args .top) (s .args .stack) (s .args .node) (s .args .k) (s .args .kind) (s .args .id) (s .args .m) (s .args .size) (s .args .next) p (a .loop .work) (a .loop .high) (a .loop .done) (a .loop .left) (a .loop .sp) (x .0) (x .1) (a .loop .inv w p h .1) (x .2) (g .node) (g .count) (g .size) (g .end) (e .group-at .ensures) (c .before .before .before .before .before .before .before .if1 .taken) (c .before .before .before .before .before .if2 .left) (r .last .0) (r .result .top) (r .result .node) (r .ensures))
-
-divide-balanced-word-at-requires-2 : (t : ℕ) → divide-balanced-lts.Need-word-at-requires-2 (divide-calls t) (divide-balanced-at t) divide-balanced.Post divide-balanced-Inv-loop divide-balanced-μ-loop
-divide-balanced-word-at-requires-2 t c κs = (node-at t (c .before .before .before), omega arith)
-
-divide-balanced-less-requires : (t : ℕ) → divide-balanced-lts.Need-less-requires (divide-calls t) (divide-balanced-at t) divide-balanced.Post divide-balanced-Inv-loop divide-balanced-μ-loop
-divide-balanced-less-requires t c κs = search needs
-
-divide-balanced-balance-range-requires : (t : ℕ) → divide-balanced-lts.Need-balance-range-requires (divide-calls t) (divide-balanced-at t) divide-balanced.Post divide-balanced-Inv-loop divide-balanced-μ-loop
-divide-balanced-balance-range-requires t c κs =
-    let e = c .before .before .before .before .before .before in
-    let a = a₂ t e in
-    let s = s₂ t e in
-    let g = e .group-at .result in
-    let w = w₂ t e in
-    let q = p₂ t e in
-    let h = h₂ t e in
-    let x = some t (i₂ t e) w q h in
-    (omega (arith, s .pre .0, sum-small-at t e (c .before .before .before .before .if1 .left)), L.many-ready w (s .args .top) (s .args .stack) (s .args .node) (s .args .k) (s .args .kind) (s .args .id) (s .args .m) (s .args .size) (s .args .next) q (a .loop .work) (a .loop .high) (a .loop .done) (a .loop .left) (a .loop .sp) (x .0) (x .1) (a .loop .inv w q h .1) (x .2) (g .node) (g .count) (g .size) (g .end) (e .group-at .ensures) (c .before .before .before .before .if1 .left))
-
-divide-balanced-sub-left-3 : (t : ℕ) → divide-balanced-lts.Need-sub-left-3 (divide-calls t) (divide-balanced-at t) divide-balanced.Post divide-balanced-Inv-loop divide-balanced-μ-loop
-divide-balanced-sub-left-3 t c = sum-le-at t (c .before .before .before .before .before .before .before .before .before .before)
-
-divide-balanced-loop-less-3 : (t : ℕ) → divide-balanced-lts.Need-loop-less-3 (divide-calls t) (divide-balanced-at t) divide-balanced.Post divide-balanced-Inv-loop divide-balanced-μ-loop
-divide-balanced-loop-less-3 t c = let e = c .before .before .before .before .before .before .before .before .before .before in omega (arith, sum-le-at t e, sum-some-at t e)
-
-divide-balanced-loop-again-3 : (t : ℕ) → divide-balanced-lts.Need-loop-again-3 (divide-calls t) (divide-balanced-at t) divide-balanced.Post divide-balanced-Inv-loop divide-balanced-μ-loop
-divide-balanced-loop-again-3 t c = λ w p h.
-    let e = c .before .before .before .before .before .before .before .before .before .before in
-    let a = a₂ t e in
-    let s = s₂ t e in
-    let g = e .group-at .result in
-    let x = some t (i₂ t e) w p h in
-    let r = c .before .before .before .balance-range in
-    let start = c .before .before .before .before .before .before .word-at2 .result in
-    let len = c .before .before .before .before .before .less .result in (
+    let copied = c .before .before .before in
+    let within-share = copied .before .before in
+    let lone = within-share .before .before in
+    let e = lone .before .before in
+    let x = some t (i₂ t e) w p h in (
       x .1,
-      balance (p .type) (p .type) start len (x .0) ⊕ a .loop .inv w p h .1,
-      L.dividing-many w (s .args .top) (s .args .stack) (s .args .node) (s .args .k) (s .args .kind) (s .args .id) (s .args .m) (s .args .size) (s .args .next) p (a .loop .work) (a .loop .high) (a .loop .done) (a .loop .left) (a .loop .sp) (x .0) (x .1) (a .loop .inv w p h .1) (x .2) (g .node) (g .count) (g .size) (g .end) (e .group-at .ensures) (c .before .before .before .before .before .before .before .before .if1 .left) start len (c .before .before .before .before .before .before .word-at2 .ensures) (c .before .before .before .before .before .less .ensures) (r .last .0) (r .result .top) (r .result .node) (r .ensures),
+      x .0 ⊕ a₂ t e .loop .inv w p h .1,
+      L.dividing-kept p (x .2) (e .group-at .ensures) (lone .if1 .taken) (within-share .if2 .left) (copied .copy .ensures),
     )
 
-divide-balanced-same-length : (t : ℕ) → divide-balanced-lts.Need-same-length (divide-calls t) (divide-balanced-at t) divide-balanced.Post divide-balanced-Inv-loop divide-balanced-μ-loop
-divide-balanced-same-length t c = let s = c .before .before .before .before .before .before .before in (c .before .loop .inv (now (s .args .work)) (s .pre .1) (c .before .before .before .before .push-groups .ensures)) .2 .kept .size
+divide-balanced-word-at-requires-2 : (t : ℕ)
+    → divide-balanced-lts.Need-word-at-requires-2 (divide-calls t) (divide-balanced-at t) divide-balanced.Post divide-balanced-Inv-loop divide-balanced-μ-loop
+divide-balanced-word-at-requires-2 t c κs = (node-at t (c .before .before .before), omega arith)
 
-divide-balanced-returns : (t : ℕ) → divide-balanced-lts.Need-returns (divide-calls t) (divide-balanced-at t) divide-balanced.Post divide-balanced-Inv-loop divide-balanced-μ-loop
+divide-balanced-less-requires : (t : ℕ)
+    → divide-balanced-lts.Need-less-requires (divide-calls t) (divide-balanced-at t) divide-balanced.Post divide-balanced-Inv-loop divide-balanced-μ-loop
+divide-balanced-less-requires t c κs = search needs
+
+divide-balanced-balance-range-requires : (t : ℕ)
+    → divide-balanced-lts.Need-balance-range-requires (divide-calls t) (divide-balanced-at t) divide-balanced.Post divide-balanced-Inv-loop divide-balanced-μ-loop
+divide-balanced-balance-range-requires t c κs =
+    let several = c .before .before .before .before in
+    let e = several .before .before in
+    let x = some t (i₂ t e) (w₂ t e) (p₂ t e) (h₂ t e) in (
+      omega (arith, s₂ t e .pre .0, sum-small-at t e (several .if1 .left)),
+      L.many-ready (p₂ t e) (x .2) (e .group-at .ensures) (several .if1 .left),
+    )
+
+divide-balanced-sub-left-3 : (t : ℕ)
+    → divide-balanced-lts.Need-sub-left-3 (divide-calls t) (divide-balanced-at t) divide-balanced.Post divide-balanced-Inv-loop divide-balanced-μ-loop
+divide-balanced-sub-left-3 t c = sum-le-at t (c .before .before .before .before .before .before .before .before .before .before)
+
+divide-balanced-loop-less-3 : (t : ℕ)
+    → divide-balanced-lts.Need-loop-less-3 (divide-calls t) (divide-balanced-at t) divide-balanced.Post divide-balanced-Inv-loop divide-balanced-μ-loop
+divide-balanced-loop-less-3 t c = let e = c .before .before .before .before .before .before .before .before .before .before in omega (arith, sum-le-at t e, sum-some-at t e)
+
+divide-balanced-loop-again-3 : (t : ℕ)
+    → divide-balanced-lts.Need-loop-again-3 (divide-calls t) (divide-balanced-at t) divide-balanced.Post divide-balanced-Inv-loop divide-balanced-μ-loop
+divide-balanced-loop-again-3 t c = λ w p h.
+    let made = c .before .before .before in
+    let measured = made .before .before in
+    let start-read = measured .before in
+    let several = start-read .before .before in
+    let e = several .before .before in
+    let x = some t (i₂ t e) w p h in (
+      x .1,
+      balance (p .type) (p .type) (start-read .word-at2 .result) (measured .less .result) (x .0) ⊕ a₂ t e .loop .inv w p h .1,
+      L.dividing-many p (x .2) (e .group-at .ensures) (several .if1 .left) (start-read .word-at2 .ensures) (measured .less .ensures)
+          (made .balance-range .ensures),
+    )
+
+divide-balanced-same-length : (t : ℕ)
+    → divide-balanced-lts.Need-same-length (divide-calls t) (divide-balanced-at t) divide-balanced.Post divide-balanced-Inv-loop divide-balanced-μ-loop
+divide-balanced-same-length t c =
+    let put = c .before .before .before .before in
+    let s = put .before .before .before in
+    (c .before .loop .inv (now (s .args .work)) (s .pre .1) (put .push-groups .ensures)) .2 .kept .size
+
+divide-balanced-returns : (t : ℕ)
+    → divide-balanced-lts.Need-returns (divide-calls t) (divide-balanced-at t) divide-balanced.Post divide-balanced-Inv-loop divide-balanced-μ-loop
 divide-balanced-returns t c =
-    let s = c .before .before .before .before .before .before .before in
     let a = c .before in
+    let put = a .before .before .before in
+    let s = put .before .before .before in
     let w = now (s .args .work) in
-    let h = c .before .before .before .before .push-groups .ensures in
-    let x = a .loop .inv w (s .pre .1) h in
-    L.divided-all (now (s .args .work)) (s .args .top) (s .args .stack) (s .args .node) (s .args .k) (s .args .kind) (s .args .id) (s .args .m) (s .args .size) (s .args .next) (s .pre .1) (a .loop .work) (a .loop .high) (a .loop .done) (a .loop .left) (a .loop .sp) (x .0) (x .1) (x .2) (c .loop-test .left)
-    (λ p. let y = a .loop .inv w p h in L.dividing-end (now (s .args .work)) (s .args .top) (s .args .stack) (s .args .node) (s .args .k) (s .args .kind) (s .args .id) (s .args .m) (s .args .size) (s .args .next) p (a .loop .work) (a .loop .high) (a .loop .done) (a .loop .left) (a .loop .sp) (y .0) (y .1) (y .2) (c .loop-test .left))
+    let h = put .push-groups .ensures in
+    L.divided-all (s .pre .1) (a .loop .inv w (s .pre .1) h .2) (c .loop-test .left)
+    (λ p. L.dividing-end p (a .loop .inv w p h .2) (c .loop-test .left))
 
 pub +balance-range+divide-balanced-spec : {M : Type 1} → statement M
 +balance-range+divide-balanced-spec =

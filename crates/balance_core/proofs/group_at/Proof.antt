@@ -6,7 +6,10 @@ use Rattle.balance_core.proofs.group_at.Statement.{statement}
 use Rattle.balance_core.proofs.group_at.Tie as tie
 
 returns : tie.Need-returns
-returns c = at-index (now (c .before .before .before .before .before .before .args .work)) (c .before .before .before .before .before .before .args .at) (c .before .before .before .before .index .result) (c .before .before .before .before .index .ensures)
+returns c =
+    let known = c .before .before .before .before in
+    let a = known .before .before .args in
+    at-index (now (a .work)) (a .at) (known .index .result) (known .index .ensures)
 
 pub group-at-spec : {M : Type 1} → statement M
 group-at-spec =

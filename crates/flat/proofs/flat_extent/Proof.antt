@@ -1,7 +1,9 @@
 -- `flat::flat_extent` meets its contract: the flat part up to the place at hand, one record more at a time. Assumes nothing.
 use borrow.Author.Needs.{needs}
 use Rattle.flat.proofs.Extending.{Extending, extending-start, extended-full, extended-done, drop-at, early-at, hold-at}
+use Prim.Native.Nat.{_+_, _*_, _≤_, _<_}
 use native.Mathlib.Omega.{arith}
+use lib.ListN.{length}
 use denote.Ref.{now}
 use Rattle.flat.proofs.flat_extent.Statement.{statement}
 use Rattle.flat.proofs.flat_extent.Tie as tie
@@ -12,44 +14,91 @@ Inv-loop records p lo bound x₀ x = Extending records p lo bound (x .p) (x .cou
 abbrev μ-loop : tie.MeasureT-loop
 μ-loop records p lo bound x₀ x = x .p
 
-loop-holds : tie.Need-loop-holds Inv-loop μ-loop
-loop-holds c = extending-start (now (c .before .args .records)) (c .before .args .p) (c .before .args .lo) (c .before .args .bound) (c .before .args .lo) (c .before .pre .1)
+-- where a record is left and may be held: it stands, and its place is the next one
+module _ (b : tie.After-back Inv-loop μ-loop) where
+  abbrev t₁ : tie.Then1 Inv-loop μ-loop
+  t₁ = b .before .before .before
 
+  abbrev a₁ : tie.At-loop Inv-loop μ-loop
+  a₁ = t₁ .before .before
+
+  abbrev s₁ : tie.Start Inv-loop μ-loop
+  s₁ = a₁ .before .before
+
+  place-at : b .back .result * 4 + 4 ≤ length (now (s₁ .args .records))
+  place-at = omega (arith, b .back .ensures, t₁ .if1 .taken, a₁ .loop .inv .below, s₁ .pre .0)
+
+  nearer : b .back .result < a₁ .loop .x .p
+  nearer = omega (arith, b .back .ensures, t₁ .if1 .taken)
+
+loop-holds : tie.Need-loop-holds Inv-loop μ-loop
+loop-holds c =
+    let s = c .before in
+    extending-start (now (s .args .records)) (s .args .p) (s .args .lo) (s .args .bound) (s .args .lo) (s .pre .1)
+
+-- 16,383 records are held
 returns : tie.Need-returns Inv-loop μ-loop
-returns c = extended-full (now (c .before .before .before .before .before .before .args .records)) (c .before .before .before .before .before .before .args .p) (c .before .before .before .before .before .before .args .lo) (c .before .before .before .before .before .before .args .bound) (c .before .before .before .before .loop .x .p) (c .before .before .before .before .loop .x .count) (c .before .before .before .before .loop .x .first) (c .before .before .before .before .loop .x .end) (c .before .before .before .before .loop .inv) (c .before .before .if1 .taken) (c .if2 .taken)
+returns c = extended-full (c .before .before .before .before .loop .inv) (c .before .before .if1 .taken) (c .if2 .taken)
 
 back-requires : tie.Need-back-requires Inv-loop μ-loop
 back-requires c κs = omega (arith, c .before .before .if1 .taken)
 
 size-at-requires : tie.Need-size-at-requires Inv-loop μ-loop
-size-at-requires c κs = omega (arith, c .back .ensures, c .before .before .before .if1 .taken, c .before .before .before .before .before .loop .inv .below, c .before .before .before .before .before .before .before .pre .0)
+size-at-requires c κs = place-at c
 
 loop-less : tie.Need-loop-less Inv-loop μ-loop
-loop-less c = omega (arith, c .dropped .ensures .0, c .before .before .before .back .ensures, c .before .before .before .before .before .before .if1 .taken)
+loop-less c = omega (arith, c .dropped .ensures .0, nearer (c .before .before .before))
 
+-- a record that is dropped
 loop-again : tie.Need-loop-again Inv-loop μ-loop
-loop-again c = drop-at (now (c .before .before .before .before .before .before .before .before .before .before .args .records)) (c .before .before .before .before .before .before .before .before .before .before .args .p) (c .before .before .before .before .before .before .before .before .before .before .args .lo) (c .before .before .before .before .before .before .before .before .before .before .args .bound) (c .before .before .before .before .before .before .before .before .loop .x .p) (c .before .before .before .before .before .before .before .before .loop .x .count) (c .before .before .before .before .before .before .before .before .loop .x .first) (c .before .before .before .before .before .before .before .before .loop .x .end) (c .before .before .before .before .before .before .before .before .loop .inv) (c .before .before .before .before .before .before .if1 .taken) (c .before .before .before .back .result) (c .before .before .size-at .result) (c .before .before .before .back .ensures) (c .before .before .size-at .ensures) (omega (arith, c .before .before .before .before .if2 .left)) (c .before .if3 .taken) (c .dropped .result .p) (c .dropped .result .count) (c .dropped .result .first) (c .dropped .result .end) (c .dropped .ensures .0) (c .dropped .ensures .1 .0) (c .dropped .ensures .1 .1 .0) (c .dropped .ensures .1 .1 .1)
+loop-again c =
+    let long = c .before in
+    let size-read = long .before in
+    let b = size-read .before in
+    let same = c .dropped .ensures in
+    drop-at (a₁ b .loop .inv) (t₁ b .if1 .taken) (b .back .ensures) (size-read .size-at .ensures) (omega (arith, b .before .if2 .left))
+    (long .if3 .taken) (same .0) (same .1 .0) (same .1 .1 .0) (same .1 .1 .1)
 
 start-at-requires : tie.Need-start-at-requires Inv-loop μ-loop
-start-at-requires c κs = omega (arith, c .before .before .back .ensures, c .before .before .before .before .before .if1 .taken, c .before .before .before .before .before .before .before .loop .inv .below, c .before .before .before .before .before .before .before .before .before .pre .0)
+start-at-requires c κs = place-at (c .before .before)
 
+-- a record that starts too early
 returns-2 : tie.Need-returns-2 Inv-loop μ-loop
-returns-2 c = early-at (now (c .before .before .before .before .before .before .before .before .before .before .before .before .args .records)) (c .before .before .before .before .before .before .before .before .before .before .before .before .args .p) (c .before .before .before .before .before .before .before .before .before .before .before .before .args .lo) (c .before .before .before .before .before .before .before .before .before .before .before .before .args .bound) (c .before .before .before .before .before .before .before .before .before .before .loop .x .p) (c .before .before .before .before .before .before .before .before .before .before .loop .x .count) (c .before .before .before .before .before .before .before .before .before .before .loop .x .first) (c .before .before .before .before .before .before .before .before .before .before .loop .x .end) (c .before .before .before .before .before .before .before .before .before .before .loop .inv) (c .before .before .before .before .before .before .before .before .if1 .taken) (c .before .before .before .before .before .back .result) (c .before .before .before .before .size-at .result) (c .before .before .before .before .before .back .ensures) (c .before .before .before .before .size-at .ensures) (c .before .before .start-at .result) (c .before .less .result) (c .before .before .start-at .ensures) (c .before .less .ensures) (omega (arith, c .before .before .before .if3 .left)) (c .if4 .taken)
+returns-2 c =
+    let bounded = c .before in
+    let start-read = bounded .before in
+    let short = start-read .before in
+    let size-read = short .before in
+    let b = size-read .before in
+    early-at (a₁ b .loop .inv) (t₁ b .if1 .taken) (b .back .ensures) (size-read .size-at .ensures)
+    (start-read .start-at .ensures) (bounded .less .ensures) (omega (arith, short .if3 .left)) (c .if4 .taken)
 
 end-at-requires : tie.Need-end-at-requires Inv-loop μ-loop
-end-at-requires c κs = omega (arith, c .before .before .before .before .before .back .ensures, c .before .before .before .before .before .before .before .before .if1 .taken, c .before .before .before .before .before .before .before .before .before .before .loop .inv .below, c .before .before .before .before .before .before .before .before .before .before .before .before .pre .0)
+end-at-requires c κs = place-at (c .before .before .before .before .before)
 
 held-requires : tie.Need-held-requires Inv-loop μ-loop
 held-requires c κs = omega (arith, c .before .before .before .before .before .before .before .if2 .left)
 
 loop-less-2 : tie.Need-loop-less-2 Inv-loop μ-loop
-loop-less-2 c = omega (arith, c .held .ensures .0, c .before .before .before .before .before .before .before .back .ensures, c .before .before .before .before .before .before .before .before .before .before .if1 .taken)
+loop-less-2 c = omega (arith, c .held .ensures .0, nearer (c .before .before .before .before .before .before .before))
 
+-- a record that is held
 loop-again-2 : tie.Need-loop-again-2 Inv-loop μ-loop
-loop-again-2 c = hold-at (now (c .before .before .before .before .before .before .before .before .before .before .before .before .before .before .args .records)) (c .before .before .before .before .before .before .before .before .before .before .before .before .before .before .args .p) (c .before .before .before .before .before .before .before .before .before .before .before .before .before .before .args .lo) (c .before .before .before .before .before .before .before .before .before .before .before .before .before .before .args .bound) (c .before .before .before .before .before .before .before .before .before .before .before .before .loop .x .p) (c .before .before .before .before .before .before .before .before .before .before .before .before .loop .x .count) (c .before .before .before .before .before .before .before .before .before .before .before .before .loop .x .first) (c .before .before .before .before .before .before .before .before .before .before .before .before .loop .x .end) (c .before .before .before .before .before .before .before .before .before .before .before .before .loop .inv) (c .before .before .before .before .before .before .before .before .before .before .if1 .taken) (c .before .before .before .before .before .before .before .back .result) (c .before .before .before .before .before .before .size-at .result) (c .before .before .before .before .before .before .before .back .ensures) (c .before .before .before .before .before .before .size-at .ensures) (c .before .before .before .before .start-at .result) (c .before .before .before .less .result) (c .before .before .before .before .start-at .ensures) (c .before .before .before .less .ensures) (omega (arith, c .before .before .before .before .before .if3 .left)) (c .before .end-at .result) (c .before .end-at .ensures) (omega (arith, c .before .before .before .before .before .before .before .before .if2 .left)) (omega (arith, c .before .before .if4 .left)) (c .held .result .p) (c .held .result .count) (c .held .result .first) (c .held .result .end) (c .held .ensures .0) (c .held .ensures .1 .0) (c .held .ensures .1 .1 .0) (c .held .ensures .1 .1 .1)
+loop-again-2 c =
+    let end-read = c .before in
+    let near = end-read .before in
+    let bounded = near .before in
+    let start-read = bounded .before in
+    let short = start-read .before in
+    let size-read = short .before in
+    let b = size-read .before in
+    let more = c .held .ensures in
+    hold-at (a₁ b .loop .inv) (t₁ b .if1 .taken) (b .back .ensures) (size-read .size-at .ensures)
+    (start-read .start-at .ensures) (bounded .less .ensures) (omega (arith, short .if3 .left)) (end-read .end-at .ensures)
+    (omega (arith, b .before .if2 .left)) (omega (arith, near .if4 .left)) (more .0) (more .1 .0) (more .1 .1 .0) (more .1 .1 .1)
 
 returns-3 : tie.Need-returns-3 Inv-loop μ-loop
-returns-3 c = extended-done (now (c .before .before .before .before .args .records)) (c .before .before .before .before .args .p) (c .before .before .before .before .args .lo) (c .before .before .before .before .args .bound) (c .before .before .loop .x .p) (c .before .before .loop .x .count) (c .before .before .loop .x .first) (c .before .before .loop .x .end) (c .before .before .loop .inv) (omega (arith, c .if1 .left))
+returns-3 c = extended-done (c .before .before .loop .inv) (omega (arith, c .if1 .left))
 
 pub flat-extent-spec : {M : Type 1} → statement M
 flat-extent-spec =

@@ -1,12 +1,23 @@
 -- `flat::stage_record` meets its contract: four words, the last one first. Assumes nothing.
 use Rattle.flat.proofs.Staging.{staged-record}
-use denote.Ref.{now}
 use borrow.Author.Needs.{needs}
 use Rattle.flat.proofs.stage_record.Statement.{statement}
 use Rattle.flat.proofs.stage_record.Tie as tie
 
 returns : tie.Need-returns
-returns c = let s = c .before .before .before .before .before .before .before .before .before .before .before .before .before .before .before .before .before .before .before .before .before .before .before in staged-record (now (s .args .records)) (now (s .args .work)) (c .before .before .before .before .before .before .before .before .before .before .before .before .before .before .stage .last .0) (c .before .before .before .before .before .before .before .before .before .before .stage2 .last .0) (c .before .before .before .before .before .before .stage3 .last .0) (c .before .before .stage4 .last .0) (s .args .i) (s .args .start) (s .args .index) (s .args .low) (c .before .before .before .before .before .before .before .before .before .before .before .before .before .before .before .before .before .before .before .less .result) (c .before .before .before .before .before .before .before .before .before .before .before .before .before .before .before .before .before .less2 .result) (c .before .before .before .before .before .before .before .before .before .before .before .before .before .before .before .before .id-at .result) (c .before .before .before .before .before .before .before .before .before .before .before .before .before .before .before .before .before .before .before .before .start-at .result) (c .before .before .before .before .before .before .before .before .before .before .before .before .before .before .before .before .before .before .end-at .result) (c .before .before .before .before .before .before .before .before .before .before .before .before .before .before .stage .result) (c .before .before .before .before .before .before .before .before .before .before .stage2 .result) (c .before .before .before .before .before .before .stage3 .result) (c .before .before .stage4 .result) (c .before .before .before .before .before .before .before .before .before .before .before .before .before .before .before .before .before .before .before .before .start-at .ensures) (c .before .before .before .before .before .before .before .before .before .before .before .before .before .before .before .before .before .before .before .less .ensures) (c .before .before .before .before .before .before .before .before .before .before .before .before .before .before .before .before .before .before .end-at .ensures) (c .before .before .before .before .before .before .before .before .before .before .before .before .before .before .before .before .before .less2 .ensures) (c .before .before .before .before .before .before .before .before .before .before .before .before .before .before .before .before .id-at .ensures) (c .before .before .before .before .before .before .before .before .before .before .before .before .before .before .stage .ensures) (c .before .before .before .before .before .before .before .before .before .before .stage2 .ensures) (c .before .before .before .before .before .before .stage3 .ensures) (c .before .before .stage4 .ensures)
+returns c =
+    let last-staged = c .before .before in
+    let third-staged = last-staged .before .before .before .before in
+    let second-staged = third-staged .before .before .before .before in
+    let first-staged = second-staged .before .before .before .before in
+    let id-read = first-staged .before .before in
+    let to-known = id-read .before in
+    let end-read = to-known .before in
+    let from-known = end-read .before in
+    let start-read = from-known .before in
+    staged-record (start-read .start-at .ensures) (from-known .less .ensures) (end-read .end-at .ensures) (to-known .less2 .ensures)
+    (id-read .id-at .ensures) (first-staged .stage .ensures) (second-staged .stage2 .ensures) (third-staged .stage3 .ensures)
+    (last-staged .stage4 .ensures)
 
 pub stage-record-spec : {M : Type 1} → statement M
 stage-record-spec =
