@@ -5,7 +5,7 @@ use mathlib.Core.Bool.{Bool, true, false, cond}
 use mathlib.Core.Option.{Option}
 use Prim.Native.Nat.{ℕ, suc, _+_, _*_, _≤_, _<_}
 use lib.Dec.{eqb}
-use lib.ListN.{length, getD}
+use lib.ListN.{length}
 use Rattle.tree.specs.Trees.{Trees, _⊕_, siblings}
 use Rattle.tree.specs.Cells.{kind, id-word}
 use Rattle.tree.specs.Balance.{total, share, divide, joined, balance}

@@ -5,7 +5,7 @@ use mathlib.Core.Bool.{cond}
 use mathlib.Core.Option.{Option}
 use Prim.Native.Nat.{ℕ, _+_, max, _≤_, _<_}
 use lib.Dec.{eqb}
-use lib.ListN.{length, getD}
+use lib.ListN.{length}
 use Rattle.tree.specs.Trees.{Trees, nil, tree, part, _⊕_, siblings, last-end}
 use Rattle.tree.specs.Cells.{kind, id-word}
 use Rattle.tree.specs.Balance.{total, groups}

@@ -2,7 +2,7 @@
 // Balancing on the store of trees: the core of `Tree::balance` and of repeat trees. A row of siblings is its first node and how
 // many they are; the balanced size of each is read off its node.
 ghost use mathlib.Core.Path.{_≡_};
-ghost use Prim.Native.Nat.{ℕ, _+_, _-_, _*_, _/_, _≤_, _<_};
+ghost use Prim.Native.Nat.{_+_, _-_, _*_, _/_, _≤_, _<_};
 ghost use mathlib.Core.List.{[], _∷_};
 ghost use lib.ListN.{length, getD};
 ghost use Rattle.store.specs.Store.{word, Readable, node-width};

@@ -1,11 +1,11 @@
 -- What the passes over the cells do at one cell: for the contracts of private functions only.
 use mathlib.Core.Path.{_≡_}
-use mathlib.Core.Bool.{Bool, true, false, cond, _&&_}
+use mathlib.Core.Bool.{Bool, false, cond, _&&_}
 use mathlib.Core.List.{List, [], _∷_}
 use mathlib.Core.Option.{none}
 use Prim.Native.Nat.{ℕ, zero, suc, _+_, _-_, _*_, _≤_, _<_}
 use lib.Dec.{ltb, eqb}
-use lib.ListN.{length, getD, set}
+use lib.ListN.{length, set}
 use Rattle.tree.specs.Cells.{cell-width, cell-kind, cell-id, cell-position, cell-length, cell-first, cell-next}
 use Rattle.tree.specs.Calls.{list-cells}
 use Rattle.rules.specs.Lowest.{bad-cell}

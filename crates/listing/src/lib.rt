@@ -3,8 +3,8 @@
 ghost use mathlib.Core.Path.{_≡_};
 ghost use mathlib.Core.Bool.{cond};
 ghost use mathlib.Core.List.{List, [], _∷_};
-ghost use Prim.Native.Nat.{ℕ, _+_, _-_, _*_, _/_, _<_, _≤_};
-ghost use lib.ListN.{length, getD};
+ghost use Prim.Native.Nat.{_+_, _-_, _*_, _/_, _<_, _≤_};
+ghost use lib.ListN.{length};
 ghost use Rattle.tree.specs.Cells.{cell-width, cell-first, cell-next};
 ghost use Rattle.words.specs.Words.{put, front};
 ghost use Rattle.tree.specs.Calls.{list-cells};

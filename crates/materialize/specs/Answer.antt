@@ -1,6 +1,5 @@
 -- What the call's answer says, as an outcome.
 use mathlib.Core.List.{[], _∷_}
-use Prim.Native.Nat.{ℕ}
 use Rattle.words.specs.Outcome.{Outcome, accepted, refused}
 use Rattle.materialize.specs.declared.Materialized.{Materialized}
 use Rattle.materialize.specs.declared.Materialized.the-variants.{Cells, Refused}

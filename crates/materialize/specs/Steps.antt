@@ -1,14 +1,14 @@
 -- What the writer of materialised cells keeps: trees without parts, written as cells from the last one back, with the numbers of the
 -- siblings that have no parent yet in the work slice. Only internal functions cite these.
 use mathlib.Core.Path.{_≡_}
-use mathlib.Core.List.{List, [], _∷_}
-use mathlib.Core.Option.{Option, none, some}
+use mathlib.Core.List.{List}
+use mathlib.Core.Option.{Option}
 use Prim.Native.Nat.{ℕ, zero, suc, _+_, _-_, _*_, _/_, _≤_, _<_}
 use mathlib.Core.Bool.{cond}
 use mathlib.Core.Logic.{_⊎_}
 use lib.Dec.{ltb, eqb}
 use lib.ListN.{length, getD, set, take, drop}
-use Rattle.words.specs.Words.{id-of, start-of, end-of, last-of, record-width}
+use Rattle.words.specs.Words.{start-of, record-width}
 use Rattle.tree.specs.Trees.{Trees, nil, tree, part, _⊕_, nodes, siblings}
 use Rattle.tree.specs.Materialise.{within, beyond, unpack}
 use Rattle.tree.specs.Cells.{kind, id-word, relative, decode-from, cell-width, next-place, cell-kind, cell-id, cell-position, cell-length, cell-first, cell-count, cell-next}

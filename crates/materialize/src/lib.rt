@@ -2,10 +2,8 @@
 ghost use mathlib.Core.Path.{_≡_};
 ghost use Prim.Native.Nat.{ℕ, _+_, _-_, _*_, _/_, _≤_, _<_};
 ghost use mathlib.Core.List.{List, [], _∷_};
-ghost use mathlib.Core.Bool.{cond};
-ghost use lib.Dec.{ltb, eqb};
-ghost use lib.ListN.{length, getD, set};
-ghost use Rattle.words.specs.Words.{front, Widened, record-width};
+ghost use lib.ListN.{length, getD};
+ghost use Rattle.words.specs.Words.{front, record-width};
 ghost use Rattle.tree.specs.Cells.{cells, cell-width, next-place};
 ghost use Rattle.rules.specs.Calls.{materialise-call};
 ghost use Rattle.materialize.specs.Answer.{materialized-outcome};

@@ -1,6 +1,6 @@
 // The check of a packed part, as validate_buffer of the source does it.
 ghost use mathlib.Core.Path.{_≡_};
-ghost use Prim.Native.Nat.{ℕ, _+_, _*_, _/_, _≤_, min};
+ghost use Prim.Native.Nat.{_+_, _*_, _/_, _≤_, min};
 ghost use lib.ListN.{length};
 ghost use Rattle.words.specs.Words.{record-width};
 ghost use Rattle.part.specs.Part.{own-fault, faults-from, part-check};

@@ -2,9 +2,9 @@
 // there.
 ghost use mathlib.Core.Path.{_≡_};
 ghost use mathlib.Core.Bool.{true, cond, _&&_};
-ghost use Prim.Native.Nat.{ℕ, _+_, _-_, _*_, _/_, _%_, _<_, _≤_, min};
+ghost use Prim.Native.Nat.{_+_, _-_, _*_, _/_, _%_, _<_, _≤_, min};
 ghost use lib.Dec.{leb};
-ghost use lib.ListN.{length, set};
+ghost use lib.ListN.{length};
 ghost use Rattle.words.specs.Words.{id-of, start-of, end-of, last-of, record-width};
 ghost use Rattle.records.specs.Forest.{behind};
 ghost use Rattle.records.specs.Parse.{nearest};

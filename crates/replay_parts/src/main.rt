@@ -5,7 +5,6 @@
 //   3 T from to direction position base side n words       a search
 // where T is the number of types and n that of the words. n and room are at most 512, a word has 16 bits, direction and
 // side 8 with a sign, and every other number 32. The whole text is at most 1 MiB. Any other line is a bad one.
-ghost use mathlib.Core.Path.{_≡_};
 ghost use Prim.Native.Nat.{_≤_};
 ghost use lib.ListN.{length};
 use part::Checked;

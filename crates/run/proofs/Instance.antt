@@ -3,7 +3,7 @@
 use mathlib.Core.Path.{_≡_, refl, ap, _∙_}
 use mathlib.Core.List.{List, []}
 use mathlib.Core.Option.{none}
-use Prim.Native.Nat.{ℕ, _≤_}
+use Prim.Native.Nat.{ℕ}
 use native.Mathlib.Omega.{arith}
 use lib.ListN.{length}
 use Rattle.words.specs.Outcome.{number-of}
@@ -11,11 +11,10 @@ use Rattle.records.specs.Forest.{count, behind, line, depth-below, reading, lev
 use Rattle.records.specs.Parse.{nearest, farther, parse-from, parse}
 use Rattle.records.specs.Check.{own-fault, fills, record-fault, records-check, in-place, or-else, range-fault, list-range-fault, list-check, check, Accepted}
 use Rattle.records.proofs.AcceptLaws.{check-accepted}
-use Rattle.tree.specs.Trees.{_⊕_, nodes, siblings, is-nil, kids-of, first-start, last-end}
+use Rattle.tree.specs.Trees.{_⊕_, nodes, siblings, last-end}
 use Rattle.tree.specs.Items.{repeats, same, items as items-of, records, first, leftmost}
 use Rattle.tree.specs.Pack.{width, words, stopped, early, scan, long, packs, run-from, entry, pack, run-part}
-use Rattle.tree.specs.Balance.{is-tree, joined, balance}
-use Rattle.tree.specs.Groups.{fresh, gather, close, pass, rest-closed, finish}
+use Rattle.tree.specs.Groups.{fresh, gather, finish}
 use Rattle.tree.specs.Flat.{too-deep}
 use Rattle.tree.specs.Build.{walk, first-level, build}
 use Rattle.tree.specs.Materialise.{within, beyond, unpack, materialise}
@@ -24,7 +23,7 @@ use Rattle.tree.specs.Calls.{Written, written, build-cells, materialise-cells}
 use Rattle.tree.specs.Run.{Run, built, materialised, read}
 use Rattle.tree.proofs.Table.{P, cells-1024, words-1024, cells-1, lines-P, nines}
 use Rattle.rules.specs.Calls.{items}
-use Rattle.run.specs.Running.{run-cells, run-words, run-lines}
+use Rattle.run.specs.Running.{run-lines}
 use Rattle.run.specs.Lent.{Lent, Lent-run, ran}
 use Rattle.run.proofs.TwoRuns.{two-runs}
 

@@ -2,15 +2,15 @@
 // A store of trees in the work slice. A node is written once and never changed, so what its address denotes stays true while
 // the store grows; one pass writes a list of trees out as preorder cells and packed words.
 ghost use mathlib.Core.Path.{_≡_};
-ghost use Prim.Native.Nat.{ℕ, min, max, _+_, _-_, _*_, _/_, _%_, _≤_, _<_};
-ghost use mathlib.Core.List.{_++_, [], _∷_};
-ghost use lib.ListN.{length, getD, take, drop};
+ghost use Prim.Native.Nat.{ℕ, max, _+_, _-_, _*_, _≤_, _<_};
+ghost use mathlib.Core.List.{[], _∷_};
+ghost use lib.ListN.{length, getD, drop};
 ghost use lib.Seq.{paste};
 ghost use lib.Dec.{eqb};
 ghost use mathlib.Core.Bool.{cond};
 ghost use Rattle.tree.specs.Cells.{cell-width};
 ghost use Rattle.words.specs.Words.{put};
-ghost use Rattle.store.specs.Store.{told, liked, liked-on, word, Readable, PushedTree, PushedPart, StagedMore, tree-cell, part-cell, PartReady, PartWritten, Writable, Wrote, TopReady, TopWrote, node-width, node-first, cells-place};
+ghost use Rattle.store.specs.Store.{told, liked, liked-on, word, Readable, PushedTree, PushedPart, StagedMore, tree-cell, PartReady, PartWritten, Writable, Wrote, TopReady, TopWrote, node-width, node-first, cells-place};
 use tree::CELL_WIDTH;
 
 // How many words a node has.

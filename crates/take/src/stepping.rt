@@ -1,7 +1,6 @@
 // One step of the take loop: a tree is closed, or the last record is passed over or taken.
 ghost use mathlib.Core.Path.{_≡_};
 ghost use Prim.Native.Nat.{_+_, _≤_, _<_};
-ghost use lib.ListN.{length};
 ghost use Rattle.store.specs.Store.{node-width};
 ghost use Rattle.cursor.specs.Own.{own-of};
 ghost use Rattle.take.specs.Starting.{Starts};

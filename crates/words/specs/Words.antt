@@ -1,7 +1,7 @@
 -- Words read out of a list and written into one. A list of words stands for a slice of any width.
 use Prim.Native.Nat.{ℕ, _+_, _-_, _*_, _<_}
 use mathlib.Core.Path.{_≡_}
-use mathlib.Core.List.{List, [], _∷_, _++_}
+use mathlib.Core.List.{List, _++_}
 use lib.ListN.{length, getD, take, drop}
 
 -- how many words a record has, in a record list and in a packed part
