@@ -1,12 +1,10 @@
 -- `balance_core::push_groups` meets its contract: the groups put already, and those of the rest of the row. Assumes nothing.
-use mathlib.Core.Path.{_≡_}
-use mathlib.Core.List.{List, [], _∷_}
-use Prim.Native.Nat.{ℕ, _+_, _-_, _≤_}
+use mathlib.Core.List.{List, _∷_}
+use Prim.Native.Nat.{_≤_}
 use native.Mathlib.Omega.{arith}
 use denote.Ref.{now}
-use Rattle.words.specs.Words.{put}
 use Rattle.tree.specs.Trees.{Trees}
-use Rattle.balance_core.specs.Rows.{Row, Grouped}
+use Rattle.balance_core.specs.Rows.{Row}
 use Rattle.balance_core.specs.Pending.{PushReady}
 use Rattle.balance_core.proofs.Pushes.{Pushing, pushing-start, pushing-next, pushing-end, row-left, count-le, four, inside-sp}
 use Rattle.balance_core.proofs.push_groups.Statement.{statement}
