@@ -36,32 +36,32 @@ module _ (z : tie.Start) where
   abbrev i : ℕ
   i = z .args .i
 
-  abbrev at : i < n
-  at = z .pre .0
+  abbrev in-cells : i < n
+  in-cells = z .pre .0
 
   abbrev building : Building held cs ws n high low (i + 1)
   building = z .pre .1 .1
 
   start-small : getD held i 0 + getD cs (i * 7 + 2) 0 ≤ 4294967295
-  start-small = start-fits held cs ws n high low i at building
+  start-small = start-fits held cs ws n high low i in-cells building
 
   next-named : getD cs (i * 7 + 6) 0 ≤ n
-  next-named = next-in held cs ws n high low i at building
+  next-named = next-in held cs ws n high low i in-cells building
 
   next-small : getD cs (i * 7 + 6) 0 * 10 ≤ high
   next-small = omega (arith, next-named, building .high-is)
 
   readable : (x : ℕ) → x ≤ n → Readable held (address high x)
-  readable = address-readable held cs ws n high low i at building
+  readable = address-readable held cs ws n high low i in-cells building
 
   room : high - (i + 1) * 10 + 10 ≤ length held
-  room = omega (arith, at, building .high-is, building .under, building .inside)
+  room = omega (arith, in-cells, building .high-is, building .under, building .inside)
 
   words-small : getD cs (i * 7) 0 ≡ 2 → low + getD cs (i * 7 + 4) 0 ≤ 4294967295
-  words-small = words-fit held cs ws n high low i at building
+  words-small = words-fit held cs ws n high low i in-cells building
 
   first-named : (getD cs (i * 7) 0 ≡ 2 → ⊥) → getD cs (i * 7 + 4) 0 ≤ n
-  first-named = first-in held cs ws n high low i at building
+  first-named = first-in held cs ws n high low i in-cells building
 
 add-start-2 : tie.Need-add-start-2
 add-start-2 c = omega (arith, start-small (c .before .before .before .before))
@@ -85,7 +85,7 @@ returns c =
     let next = c .before .before .before .before .before .before .before .before .before in
     let pushed = c .before .before in
     let is-part = simp add-zero at (c .before .before .before .before .before .before .before .if1 .taken) in
-    λ ws b. pushed-part (held z) (cs z) ws (n z) (high z) (low z) (i z) (at z) b (pushed .push-part .last .0) (high z - (i z + 1) * 10)
+    λ ws b. pushed-part (held z) (cs z) ws (n z) (high z) (low z) (i z) (in-cells z) b (pushed .push-part .last .0) (high z - (i z + 1) * 10)
     (getD (held z) (i z) 0 + getD (cs z) (i z * 7 + 2) 0) (pushed .push-part .result) refl refl (next .node-of .result) (next .node-of .ensures)
     is-part (low z + getD (cs z) (i z * 7 + 4) 0) refl (pushed .push-part .ensures)
 
@@ -113,7 +113,7 @@ returns-2 c =
     let first = c .before .before .before .before .before .before .before in
     let pushed = c .before .before in
     let no-part = simp add-zero at (c .before .before .before .before .before .before .before .before .before .if1 .left) in
-    λ ws b. pushed-tree (held z) (cs z) ws (n z) (high z) (low z) (i z) (at z) b (pushed .push-tree .last .0) (high z - (i z + 1) * 10)
+    λ ws b. pushed-tree (held z) (cs z) ws (n z) (high z) (low z) (i z) (in-cells z) b (pushed .push-tree .last .0) (high z - (i z + 1) * 10)
     (getD (held z) (i z) 0 + getD (cs z) (i z * 7 + 2) 0) (pushed .push-tree .result) refl refl (next .node-of .result) (next .node-of .ensures)
     no-part (first .node-of2 .result) (first .node-of2 .ensures) (simp add-zero at (pushed .push-tree .ensures))
 

@@ -43,9 +43,14 @@ slice-write-work c = omega (arith, fits (c .before .before .before .before .befo
 
 returns : tie.Need-returns
 returns c =
-    let z = c .before .before .before .before .before .before .before .before .before .before .before .before .before .before in
-    push-law (now (z .args .work)) (now (z .args .out)) (c .before .before .before .before .before .before .end-links .last .1 .1 .1 .0) (c .before .before .put-cell .last .0) (z .args .cell) (z .args .kept) (z .args .sp) (z .args .kind) (z .args .id) (z .args .start) (z .args .len)
-    (c .before .before .before .before .before .before .before .before .before .before .before .first-child .result) (c .before .before .before .before .before .before .before .before .before .next-sibling .result) (c .before .before .before .before .before .before .before .before .before .before .before .first-child .ensures) (c .before .before .before .before .before .before .before .before .before .next-sibling .ensures) (c .before .before .before .before .before .before .end-links .ensures) (c .before .before .put-cell .ensures)
+    let a = c .before .before .before .before .before .before .before .before .before .before .before .before .before .before .args in
+    let first = c .before .before .before .before .before .before .before .before .before .before .before .first-child in
+    let next = c .before .before .before .before .before .before .before .before .before .next-sibling in
+    let ended = c .before .before .before .before .before .before .end-links in
+    let written = c .before .before .put-cell in
+    push-law (now (a .work)) (now (a .out)) (ended .last .1 .1 .1 .0) (written .last .0)
+    (a .cell) (a .kept) (a .sp) (a .kind) (a .id) (a .start) (a .len)
+    (first .result) (next .result) (first .ensures) (next .ensures) (ended .ensures) (written .ensures)
 
 pub push-spec : {M : Type 1} → statement M
 push-spec =

@@ -88,11 +88,11 @@ module _ (c : tie.After-hand-over Inv-loop μ-loop) where
   abbrev bounded : tie.After-inside Inv-loop μ-loop
   bounded = c .before .before .before
 
-  abbrev at : tie.In-loop Inv-loop μ-loop
-  at = c .before .before .before .before .before .before .before .before .before .before .before .before .before
+  abbrev this-turn : tie.In-loop Inv-loop μ-loop
+  this-turn = c .before .before .before .before .before .before .before .before .before .before .before .before .before
 
   abbrev start : ℕ
-  start = position at + c .before .before .before .before .before .before .before .before .before .before .before .word .result
+  start = position this-turn + c .before .before .before .before .before .before .before .before .before .before .before .word .result
 
   abbrev kept : ℕ
   kept = c .hand-over .result
@@ -100,21 +100,21 @@ module _ (c : tie.After-hand-over Inv-loop μ-loop) where
   abbrev out₁ : List ℕ
   out₁ = c .hand-over .last .1 .1 .1 .1 .1 .0
 
-  abbrev moved : Moved (held at) (out at) out₁ (sp at) (left at) (limit bounded) start kept
+  abbrev moved : Moved (held this-turn) (out this-turn) out₁ (sp this-turn) (left this-turn) (limit bounded) start kept
   moved = c .hand-over .ensures
 
-  abbrev same-size : length out₁ ≡ length (out at)
+  abbrev same-size : length out₁ ≡ length (out this-turn)
   same-size = c .hand-over .kept .1 .1 .1 .1 .1 .0
 
-  children-taken : Taken (held at) out₁ (cell at + (i at - 1)) kept (left at)
+  children-taken : Taken (held this-turn) out₁ (cell this-turn + (i this-turn - 1)) kept (left this-turn)
   children-taken =
-      taken (held₀ at) (held at) (out₀ at) (out at) (cell at) (position at) (sp at) (part at) (left at) (i at)
-      (unpacking at) (more at) (limit bounded) (limit-is bounded) start kept out₁ moved same-size (packed at)
+      taken (held₀ this-turn) (held this-turn) (out₀ this-turn) (out this-turn) (cell this-turn) (position this-turn) (sp this-turn) (part this-turn) (left this-turn) (i this-turn)
+      (unpacking this-turn) (more this-turn) (limit bounded) (limit-is bounded) start kept out₁ moved same-size (packed this-turn)
 
   kept-small : kept ≤ 4294967295
   kept-small =
-      kept-few (held₀ at) (held at) (out₀ at) (out at) (cell at) (position at) (sp at) (part at) (left at) (i at)
-      (unpacking at) (more at) (limit bounded) (limit-is bounded) start kept out₁ moved same-size (packed at)
+      kept-few (held₀ this-turn) (held this-turn) (out₀ this-turn) (out this-turn) (cell this-turn) (position this-turn) (sp this-turn) (part this-turn) (left this-turn) (i this-turn)
+      (unpacking this-turn) (more this-turn) (limit bounded) (limit-is bounded) start kept out₁ moved same-size (packed this-turn)
 
 loop-holds : tie.Need-loop-holds Inv-loop μ-loop
 loop-holds c =
@@ -187,13 +187,13 @@ hand-over-requires : tie.Need-hand-over-requires Inv-loop μ-loop
 hand-over-requires c κs = siblings-open (c .before .before)
 
 add-push : tie.Need-add-push Inv-loop μ-loop
-add-push c = omega (arith, cell-small (at (c .before .before .before .before)))
+add-push c = omega (arith, cell-small (this-turn (c .before .before .before .before)))
 
 mul-word-4 : tie.Need-mul-word-4 Inv-loop μ-loop
-mul-word-4 c = omega (arith, record-in (at (c .before .before .before .before)))
+mul-word-4 c = omega (arith, record-in (this-turn (c .before .before .before .before)))
 
 shared-slice-read-word-4 : tie.Need-shared-slice-read-word-4 Inv-loop μ-loop
-shared-slice-read-word-4 c = omega (arith, record-in (at (c .before .before .before .before .before)))
+shared-slice-read-word-4 c = omega (arith, record-in (this-turn (c .before .before .before .before .before)))
 
 push-requires : tie.Need-push-requires Inv-loop μ-loop
 push-requires c κs = children-taken (c .before .before .before .before .before .before)
@@ -202,12 +202,12 @@ add-left : tie.Need-add-left Inv-loop μ-loop
 add-left c = omega (arith, kept-small (c .before .before .before .before .before .before .before .before .before .before .before))
 
 loop-less : tie.Need-loop-less Inv-loop μ-loop
-loop-less c = omega (arith, more (at (c .before .before .before .before .before .before .before .before .before .before .before)))
+loop-less c = omega (arith, more (this-turn (c .before .before .before .before .before .before .before .before .before .before .before)))
 
 loop-again : tie.Need-loop-again Inv-loop μ-loop
 loop-again c =
     let h = c .before .before .before .before .before .before .before .before .before .before .before in
-    let t = at h in
+    let t = this-turn h in
     let b = bounded h in
     let p = c .before .before .before .before in
     let word = h .before .before .before .before .before .before .before .before .before .before .before in
