@@ -166,8 +166,8 @@ struct Place {
     marks: usize,
 }
 
-// a - b, or 0 where b is larger.
-fn below(a: usize, b: usize) -> usize
+// How many of a are left when b are taken, 0 where b is larger.
+fn remaining(a: usize, b: usize) -> usize
     ensures { λ r. ⌜ r ≡ a - b ⌝ }
 {
     if a < b {
@@ -201,7 +201,7 @@ fn place_tree(
     requires { ⌜ Next-cell (now work) (now out) (now cells) total i cell trees marks ⌝ }
     ensures { λ r. ⌜ ((ws : List ℕ) → Wrote (now (work .entry)) (now (work .exit)) (now (out .entry)) (now (out .exit)) (now (cells .entry)) ws total i cell trees marks (r .cell) (r .trees) (r .marks)) ⌝ }
 {
-    let left = below(marks, words::index(cells[i * CELL_WIDTH + COUNT]));
+    let left = remaining(marks, words::index(cells[i * CELL_WIDTH + COUNT]));
     let kept = staying(&*work, total, trees, marks, left);
     push(
         work,

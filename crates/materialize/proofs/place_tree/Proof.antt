@@ -39,7 +39,7 @@ module _ (c : tie.After-staying) where
   marks = c .before .before .before .before .before .before .before .before .args .marks
 
   abbrev left : ℕ
-  left = c .before .before .below .result
+  left = c .before .before .remaining .result
 
   abbrev kept : ℕ
   kept = c .staying .result
@@ -48,7 +48,7 @@ module _ (c : tie.After-staying) where
   next = c .before .before .before .before .before .before .before .before .pre
 
   left-is : left ≡ marks - getD cs (i * 7 + 5) 0
-  left-is = c .before .before .below .ensures ∙ ap (λ (x : ℕ). marks - x) (c .before .before .before .index .ensures)
+  left-is = c .before .before .remaining .ensures ∙ ap (λ (x : ℕ). marks - x) (c .before .before .before .index .ensures)
 
   kept-is : kept ≡ trees-left held total trees marks left
   kept-is = c .staying .ensures
