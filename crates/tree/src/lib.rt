@@ -1,6 +1,6 @@
-// Definitions and laws; in code the widths of a cell and of a line, the places of a cell's words, and a cell written.
-// The build and the tree calls: definitions in specs/, their laws and the two-run theorem in proofs/.
-
+// Internal.
+// The build and the tree calls: definitions in specs/, their laws and the two-run theorem in proofs/. In code only the widths of a cell
+// and of a line, the places of a cell's words, and the function that writes a cell.
 ghost use mathlib.Core.Path.{_≡_};
 ghost use Prim.Native.Nat.{_+_, _≤_};
 ghost use lib.ListN.{length};
