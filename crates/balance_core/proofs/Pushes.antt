@@ -5,13 +5,12 @@ use Prim.Native.Nat.{ℕ, _+_, _-_, _*_, _≤_, _<_}
 use native.Mathlib.Omega.{arith}
 use lib.ListN.{length, getD, set}
 use Rattle.words.specs.Words.{put}
-use Rattle.words.proofs.Stores.{put-four}
+use Rattle.words.proofs.Stores.{put-four, put-in}
 use Rattle.tree.specs.Trees.{Trees, nil, _⊕_, siblings}
 use Rattle.tree.specs.Balance.{total, groups}
 use Rattle.tree.proofs.ListingLaws.{⊕-assoc}
 use Rattle.tree.proofs.FuelLaws.{total-⊕}
 use Rattle.store.specs.Store.{Holds, Same}
-use Rattle.store.proofs.Puts.{put-in}
 use Rattle.store.proofs.Frame.{same-less, same-put, frame}
 use Rattle.balance_core.specs.Rows.{Ends, Row, Grouped}
 use Rattle.balance_core.specs.Pending.{GroupAt, Pending, stacked, PushReady}

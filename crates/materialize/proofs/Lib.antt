@@ -1,4 +1,3 @@
-pub mod Puts
 pub mod Written
 pub mod Pushing
 pub mod Handing

@@ -16,7 +16,7 @@ use Rattle.tree.specs.Trees.{Trees, nil, tree, part, _⊕_, nodes, siblings}
 use Rattle.tree.specs.Cells.{kind, id-word}
 use Rattle.tree.proofs.PackLaws.{nodes-⊕}
 use Rattle.materialize.specs.Steps.{leads, Out, Roots, Made, Room, ended, first-link, next-link, Taken, Put, Fit}
-use Rattle.materialize.proofs.Puts.{put-in, put-after}
+use Rattle.words.proofs.Stores.{put-in, put-after}
 use Rattle.materialize.proofs.Written.{siblings-⊕, siblings-nodes, out-frame, out-split, roots-frame, roots-after, last-root, retarget, out-none, leads-none}
 
 leads-some : (ts : Trees) (c e : ℕ) → 0 < siblings ts → leads ts c e ≡ suc c

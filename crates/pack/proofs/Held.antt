@@ -18,7 +18,7 @@ use Rattle.scan.specs.Walked.{Remembered, Scans}
 use Rattle.scan.specs.declared.Memo.{Memo}
 use Rattle.scan.proofs.Memory.{remembered-after}
 use Rattle.store.specs.Store.{Staged, Same}
-use Rattle.store.proofs.Puts.{put-length, put-in}
+use Rattle.words.proofs.Stores.{put-length, put-in}
 use Rattle.store.proofs.Frame.{same-put}
 use Rattle.pack.specs.Taking.{Filled, Takable}
 use Rattle.tree.specs.Ordered.{Fits}

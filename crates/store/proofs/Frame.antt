@@ -16,7 +16,7 @@ use Rattle.tree.specs.Balance.{all-of, total, same-type}
 use Rattle.store.proofs.Unique.{not-part, type-same}
 use Rattle.words.specs.Words.{put}
 use Rattle.store.specs.Store.{likes, liked, liked-on, word, Node, Staged, Holds, Same, told, Readable, PushedTree, PushedPart, StagedMore}
-use Rattle.store.proofs.Puts.{put-length, put-in, put-before, put-after}
+use Rattle.words.proofs.Stores.{put-length, put-in, put-before, put-after}
 
 pub same-less : (w w′ : List ℕ) (base top low base′ top′ low′ : ℕ) → base ≤ base′ → top′ ≤ top → low ≤ low′ → Same w w′ base top low → Same w w′ base′ top′ low′
 same-less w w′ base top low base′ top′ low′ a b c s = record {

@@ -15,7 +15,7 @@ use Rattle.tree.specs.Cells.{packed, kind, id-word, tree-cells, unless-none}
 use Rattle.words.specs.Words.{put, front}
 use Rattle.words.proofs.Runs.{Fronted, fronted-length, fronted-next, fronted-all}
 use Rattle.store.specs.Store.{likes, word, Node, Holds, Same, told, Readable, tree-cell, part-cell, Writable, Wrote, PartReady, PartWritten}
-use Rattle.store.proofs.Puts.{put-length, put-in, put-before}
+use Rattle.words.proofs.Stores.{put-length, put-in, put-before}
 use Rattle.store.proofs.Frame.{same-less, same-put, frame, tells-cells, tells-trees, readable}
 use Rattle.store.proofs.Unique.{unique, not-part}
 use Rattle.store.proofs.Flow.{Later, end, more, flow, parts, left, flow-nil, flow-tree, flow-part, siblings-few}

@@ -17,7 +17,7 @@ use Rattle.tree.specs.Build.{walk}
 use Rattle.tree.proofs.WellLaws.{gathers-fresh}
 use Rattle.store.specs.Store.{Same}
 use Rattle.store.proofs.Frame.{same-put}
-use Rattle.store.proofs.Puts.{put-in, put-before, put-length}
+use Rattle.words.proofs.Stores.{put-in, put-before, put-length}
 use Rattle.cursor.specs.Spells.{Stands}
 use Rattle.cursor.proofs.Spelled.{stands-inside, stands-beyond}
 use Rattle.gathering.specs.Gathering.{due}
