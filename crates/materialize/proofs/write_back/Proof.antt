@@ -1,6 +1,6 @@
 -- `materialize::write_back` meets its contract: the invariant: the cells passed, from the last one back, stand written. Assumes nothing.
 use native.Mathlib.Omega.{arith}
-use Prim.Native.Nat.{ℕ, _-_, _<_}
+use Prim.Native.Nat.{ℕ, _-_}
 use mathlib.Core.List.{List}
 use denote.Ref.{now}
 use Rattle.materialize.proofs.Finishing.{Writing, writing-start, writing-next, writing-at, writing-end}
