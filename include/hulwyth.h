@@ -56,6 +56,21 @@
 extern "C" {
 #endif
 
+/* How many words a record of a list or of a packed part, a cell and a line have, and the places of a cell's words. */
+enum {
+    HULWYTH_RECORD_WIDTH = 4,
+    HULWYTH_CELL_WIDTH = 7,
+    HULWYTH_LINE_WIDTH = 4,
+
+    HULWYTH_KIND = 0,
+    HULWYTH_ID = 1,
+    HULWYTH_POSITION = 2,
+    HULWYTH_LENGTH = 3,
+    HULWYTH_FIRST = 4,
+    HULWYTH_COUNT = 5,
+    HULWYTH_NEXT = 6
+};
+
 /* Record lists
  *
  * Four words a record: id, start, end, size; children before parents. The size counts the words of the record and its descendants;
@@ -118,9 +133,9 @@ uint32_t hulwyth_check(uint32_t types, uint32_t first_repeat, uint32_t bound, ui
  * work          scratch space
  * work_len      its words: 96 for each record, and 96
  * cells         the cells of the result
- * cells_len     its words: seven for each cell; a list of n records has at most 2 * n + 1 cells
+ * cells_len     its words: HULWYTH_CELL_WIDTH for each cell; a list of n records has at most 2 * n + 1 cells
  * words         the packed words of the result
- * words_len     how many: four for each record always suffice
+ * words_len     how many: HULWYTH_RECORD_WIDTH for each record always suffice
  * info          place and counts
  * info_len      its words
  */
@@ -131,7 +146,7 @@ uint32_t hulwyth_build(uint32_t types, uint32_t first_repeat, uint32_t bound, ui
 
 /* Trees
  *
- * Cells of seven words, numbered from 1 in preorder:
+ * Cells of HULWYTH_CELL_WIDTH words, numbered from 1 in preorder:
  *
  *   kind      1 a tree, 2 a packed part, 3 a tree of no type
  *   id        below T; 0 for the kinds 2 and 3
@@ -145,7 +160,7 @@ uint32_t hulwyth_build(uint32_t types, uint32_t first_repeat, uint32_t bound, ui
  *
  *    1  T is above 65,536
  *   11  the work slice is below 96 words for each item and 96 more; the items are the cells and every fourth packed word
- *   15  a cell breaks a rule; the place is the lowest such cell, or 0 where there is no cell or the words are not a multiple of 7
+ *   15  a cell breaks a rule; the place is the lowest such cell, or 0 where there is no cell or the words are no whole cells
  *   12  there is too little room for the cells of the result, or it has more than 4,294,967,295 of them; in hulwyth_balance also:
  *       there are more than 44,739,241 items
  *   13  there is too little room for the packed words of the result (hulwyth_balance)
@@ -171,7 +186,7 @@ uint32_t hulwyth_build(uint32_t types, uint32_t first_repeat, uint32_t bound, ui
  * work       scratch space
  * work_len   its words: 96 for each item, and 96
  * out        the cells of the result
- * out_len    its words: seven for each tree and each packed record
+ * out_len    its words: HULWYTH_CELL_WIDTH for each tree and each packed record
  * info       place and counts
  * info_len   its words
  */
@@ -191,7 +206,7 @@ uint32_t hulwyth_materialise(uint32_t types, const uint32_t *cells, size_t cells
  * work        scratch space
  * work_len    its words: 96 for each item, and 96
  * out         the cells of the result
- * out_len     its words: seven for each cell; twice as many cells as are handed in always suffice
+ * out_len     its words: HULWYTH_CELL_WIDTH for each cell; twice as many cells as are handed in always suffice
  * packed      the packed words of the result
  * packed_len  how many: words_len
  * info        place and counts
@@ -211,8 +226,8 @@ uint32_t hulwyth_balance(uint32_t types, const uint32_t *cells, size_t cells_len
  * cells_len     their words
  * work          scratch space
  * work_len      its words: 96 for each cell, and 96
- * lines         four words a line
- * lines_len     its words: four for each line; there are fewer lines than cells
+ * lines         HULWYTH_LINE_WIDTH words a line
+ * lines_len     its words: HULWYTH_LINE_WIDTH for each line; there are fewer lines than cells
  * info          place and counts
  * info_len      its words
  */

@@ -15,6 +15,11 @@ static int status = 0;
 static uint32_t *work, *cells, *out, *lines;
 static uint16_t *words;
 static const size_t work_len = 96 * (size_t)(MANY + 100) + 96;
+static const size_t cells_len = (size_t)ROOM * HULWYTH_CELL_WIDTH;
+static const size_t lines_len = (size_t)ROOM * HULWYTH_LINE_WIDTH;
+
+/* The words of so many records, in a list and packed. */
+static const size_t records_len = (size_t)MANY * HULWYTH_RECORD_WIDTH;
 
 static void *words32(size_t count) {
     void *at = malloc(count * sizeof(uint32_t));
@@ -27,8 +32,8 @@ static void *words32(size_t count) {
 
 static void put(size_t cell, uint32_t kind, uint32_t id, uint32_t position, uint32_t length, uint32_t first, uint32_t count,
                 uint32_t next) {
-    const uint32_t row[7] = {kind, id, position, length, first, count, next};
-    for (int i = 0; i < 7; i++) cells[(cell - 1) * 7 + i] = row[i];
+    const uint32_t row[HULWYTH_CELL_WIDTH] = {kind, id, position, length, first, count, next};
+    for (int i = 0; i < HULWYTH_CELL_WIDTH; i++) cells[(cell - 1) * HULWYTH_CELL_WIDTH + i] = row[i];
 }
 
 /* A chain of `count` trees from cell `from` on, each with the next one as its only child; `next` follows the first of them. */
@@ -97,15 +102,16 @@ static void say(const char *what, uint32_t number, uint64_t place, uint64_t coun
 
 /* All three calls on the tree that stands in `cells`. What is due: cells of the balanced tree and children of its top, lines. */
 static void run(const char *what, size_t count, uint64_t balanced, uint64_t held, uint64_t listed) {
+    size_t given = count * HULWYTH_CELL_WIDTH;
     uint32_t info[3];
     printf("%s\n", what);
-    uint32_t number = hulwyth_materialise(4, cells, count * 7, NULL, 0, work, work_len, out, ROOM * 7, info, 3);
+    uint32_t number = hulwyth_materialise(4, cells, given, NULL, 0, work, work_len, out, cells_len, info, 3);
     say("cells materialised", number, info[0], info[1], count);
-    number = hulwyth_list(4, 4, 0, cells, count * 7, work, work_len, lines, ROOM * 4, info, 3);
+    number = hulwyth_list(4, 4, 0, cells, given, work, work_len, lines, lines_len, info, 3);
     say("lines listed", number, info[0], info[1], listed);
-    number = hulwyth_balance(4, cells, count * 7, NULL, 0, work, work_len, out, ROOM * 7, NULL, 0, info, 3);
+    number = hulwyth_balance(4, cells, given, NULL, 0, work, work_len, out, cells_len, NULL, 0, info, 3);
     say("cells balanced", number, info[0], info[1], balanced);
-    say("children of the top", number, info[0], out[5], held);
+    say("children of the top", number, info[0], out[HULWYTH_COUNT], held);
     fflush(stdout);
 }
 
@@ -113,42 +119,42 @@ static void run(const char *what, size_t count, uint64_t balanced, uint64_t held
 static void run_build(const char *what, uint64_t due, uint64_t packed) {
     uint32_t info[3];
     printf("%s\n", what);
-    uint32_t number = hulwyth_build(4, 4, 1024, 0, 0, 0, 0, lines, (size_t)MANY * 4, work, work_len, cells, (size_t)ROOM * 7,
-                                    words, (size_t)MANY * 4, info, 3);
+    uint32_t number = hulwyth_build(4, 4, 1024, 0, 0, 0, 0, lines, records_len, work, work_len, cells, cells_len, words,
+                                    records_len, info, 3);
     say("cells built", number, info[0], info[1], due);
     say("packed words", number, info[0], info[2], packed);
     fflush(stdout);
 }
 
 static void record(size_t at, uint32_t id, uint32_t start, uint32_t end, uint32_t size) {
-    const uint32_t record[4] = {id, start, end, size};
-    for (int i = 0; i < 4; i++) lines[at * 4 + i] = record[i];
+    const uint32_t record[HULWYTH_RECORD_WIDTH] = {id, start, end, size};
+    for (int i = 0; i < HULWYTH_RECORD_WIDTH; i++) lines[at * HULWYTH_RECORD_WIDTH + i] = record[i];
 }
 
 /* A chain of records from 0 to 2,000: 2,502 trees, and a part with the innermost record. */
 static void build_chain(void) {
-    for (size_t i = 0; i < MANY; i++) record(i, 1, 0, 2000, (uint32_t)(i + 1) * 4);
-    run_build("records: a chain of 1000000 from 0 to 2000", 1 + 2502 + 1, 4);
+    for (size_t i = 0; i < MANY; i++) record(i, 1, 0, 2000, (uint32_t)(i + 1) * HULWYTH_RECORD_WIDTH);
+    run_build("records: a chain of 1000000 from 0 to 2000", 1 + 2502 + 1, HULWYTH_RECORD_WIDTH);
 }
 
 /* Records of length 2,000 side by side: a tree of each. */
 static void build_siblings(void) {
-    for (size_t i = 0; i < MANY; i++) record(i, 1, (uint32_t)i * 2000, (uint32_t)i * 2000 + 2000, 4);
+    for (size_t i = 0; i < MANY; i++) record(i, 1, (uint32_t)i * 2000, (uint32_t)i * 2000 + 2000, HULWYTH_RECORD_WIDTH);
     run_build("records: 1000000 siblings of length 2000", MANY + 1, 0);
 }
 
 /* Records of length 1: from the last one back a part takes those that start at or after its end - 1,024. */
 static void build_short(void) {
-    for (size_t i = 0; i < MANY; i++) record(i, 1, (uint32_t)i, (uint32_t)i + 1, 4);
-    run_build("records: 1000000 siblings of length 1", 1 + (MANY + 1023) / 1024, (uint64_t)MANY * 4);
+    for (size_t i = 0; i < MANY; i++) record(i, 1, (uint32_t)i, (uint32_t)i + 1, HULWYTH_RECORD_WIDTH);
+    run_build("records: 1000000 siblings of length 1", 1 + (MANY + 1023) / 1024, records_len);
 }
 
 int main(void) {
     work = words32(work_len);
-    cells = words32((size_t)ROOM * 7);
-    out = words32((size_t)ROOM * 7);
-    lines = words32((size_t)ROOM * 4);
-    words = words32((size_t)MANY * 2);
+    cells = words32(cells_len);
+    out = words32(cells_len);
+    lines = words32(lines_len);
+    words = words32(records_len / 2);
     run("a chain of 1000000 trees of no type", chain(3, 0), MANY + 1, 1, 0);
     run("a chain of 1000000 trees of id 1", chain(1, 1), MANY + 1, 1, MANY);
     run("1000000 siblings", siblings(), 1 + below(MANY), children(MANY), MANY);

@@ -14,8 +14,8 @@ enum {
     START = 0,
     TOP = 0,
     RECORDS = 3,
-    WORDS = 4 * RECORDS,     /* the packed words of so many records at most */
-    CELLS = 2 * RECORDS + 1, /* the cells of so many records at most, before and after materialising */
+    WORDS = HULWYTH_RECORD_WIDTH * RECORDS, /* the packed words of so many records at most */
+    CELLS = 2 * RECORDS + 1,                /* the cells of so many records at most, before and after materialising */
     LEAVES = 11,
     BALANCED = 2 * LEAVES + 1, /* the cells of a top with so many leaves at most, balanced */
 };
@@ -23,11 +23,11 @@ enum {
 /* The words of work for so many items. */
 #define WORK(items) (96 * (items) + 96)
 
-static const uint32_t P[4 * RECORDS] = {1, 0, 2, 4, 2, 3, 5, 4, 3, 0, 6, 12};
+static const uint32_t P[HULWYTH_RECORD_WIDTH * RECORDS] = {1, 0, 2, 4, 2, 3, 5, 4, 3, 0, 6, 12};
 
 /* A tree, as cells and packed words. */
 struct tree {
-    uint32_t cells[7 * CELLS];
+    uint32_t cells[HULWYTH_CELL_WIDTH * CELLS];
     uint16_t words[WORDS];
     size_t cell_count, word_count;
 };
@@ -49,7 +49,7 @@ static void print_rows(const uint32_t *words, size_t rows, size_t width)
 /* Prints the records of a packed part. */
 static void print_part(const uint16_t *words, size_t count)
 {
-    for (size_t i = 0; i + 4 <= count; i += 4)
+    for (size_t i = 0; i + HULWYTH_RECORD_WIDTH <= count; i += HULWYTH_RECORD_WIDTH)
         printf("  %" PRIu16 " %" PRIu16 " %" PRIu16 " %" PRIu16 "\n", words[i], words[i + 1], words[i + 2], words[i + 3]);
 }
 
@@ -57,7 +57,7 @@ static int check(size_t held_back)
 {
     uint32_t work[WORK(RECORDS)], info[3];
     size_t lent = WORK(RECORDS) - held_back;
-    uint32_t number = hulwyth_check(TYPES, FIRST_REPEAT, BOUND, START, TOP, P, 4 * RECORDS, work, lent, info, 3);
+    uint32_t number = hulwyth_check(TYPES, FIRST_REPEAT, BOUND, START, TOP, P, HULWYTH_RECORD_WIDTH * RECORDS, work, lent, info, 3);
     return accepted("check", number, info);
 }
 
@@ -65,13 +65,13 @@ static int build(struct tree *tree, size_t held_back)
 {
     uint32_t work[WORK(RECORDS)], info[3];
     size_t lent = WORK(RECORDS) - held_back;
-    uint32_t number = hulwyth_build(TYPES, FIRST_REPEAT, BOUND, START, TOP, 0, 0, P, 4 * RECORDS, work, lent, tree->cells,
-                                    7 * CELLS, tree->words, WORDS, info, 3);
+    uint32_t number = hulwyth_build(TYPES, FIRST_REPEAT, BOUND, START, TOP, 0, 0, P, HULWYTH_RECORD_WIDTH * RECORDS, work, lent,
+                                    tree->cells, HULWYTH_CELL_WIDTH * CELLS, tree->words, WORDS, info, 3);
     if (!accepted("build", number, info))
         return 0;
     tree->cell_count = info[1];
     tree->word_count = info[2];
-    print_rows(tree->cells, tree->cell_count, 7);
+    print_rows(tree->cells, tree->cell_count, HULWYTH_CELL_WIDTH);
     print_part(tree->words, tree->word_count);
     return 1;
 }
@@ -80,50 +80,51 @@ static int build(struct tree *tree, size_t held_back)
 static int materialise(const struct tree *tree, struct tree *made, size_t held_back)
 {
     uint32_t work[WORK(CELLS + RECORDS)], info[3];
-    size_t lent = WORK(tree->cell_count + tree->word_count / 4) - held_back;
-    uint32_t number = hulwyth_materialise(TYPES, tree->cells, 7 * tree->cell_count, tree->words, tree->word_count, work, lent,
-                                          made->cells, 7 * CELLS, info, 3);
+    size_t lent = WORK(tree->cell_count + tree->word_count / HULWYTH_RECORD_WIDTH) - held_back;
+    uint32_t number = hulwyth_materialise(TYPES, tree->cells, HULWYTH_CELL_WIDTH * tree->cell_count, tree->words, tree->word_count,
+                                          work, lent, made->cells, HULWYTH_CELL_WIDTH * CELLS, info, 3);
     if (!accepted("materialise", number, info))
         return 0;
     made->cell_count = info[1];
     made->word_count = 0;
-    print_rows(made->cells, made->cell_count, 7);
+    print_rows(made->cells, made->cell_count, HULWYTH_CELL_WIDTH);
     return 1;
 }
 
 static int list(const struct tree *tree, size_t held_back)
 {
-    uint32_t work[WORK(CELLS)], lines[4 * RECORDS], info[3];
+    uint32_t work[WORK(CELLS)], lines[HULWYTH_LINE_WIDTH * RECORDS], info[3];
     size_t lent = WORK(tree->cell_count) - held_back;
-    uint32_t number = hulwyth_list(TYPES, FIRST_REPEAT, START, tree->cells, 7 * tree->cell_count, work, lent, lines, 4 * RECORDS,
-                                   info, 3);
+    uint32_t number = hulwyth_list(TYPES, FIRST_REPEAT, START, tree->cells, HULWYTH_CELL_WIDTH * tree->cell_count, work, lent,
+                                   lines, HULWYTH_LINE_WIDTH * RECORDS, info, 3);
     if (!accepted("list", number, info))
         return 0;
-    print_rows(lines, info[1], 4);
+    print_rows(lines, info[1], HULWYTH_LINE_WIDTH);
     return 1;
 }
 
 /* The cells of a top with so many leaves of length 1. */
 static void put_leaves(uint32_t *cells, uint32_t leaves)
 {
-    const uint32_t top[7] = {1, TOP, 0, leaves, 2, leaves, 0};
+    const uint32_t top[HULWYTH_CELL_WIDTH] = {1, TOP, 0, leaves, 2, leaves, 0};
     memcpy(cells, top, sizeof top);
     for (uint32_t i = 0; i < leaves; i++) {
-        const uint32_t leaf[7] = {1, 1, i, 1, 0, 0, i + 1 == leaves ? 0 : i + 3};
-        memcpy(cells + 7 * (i + 1), leaf, sizeof leaf);
+        const uint32_t leaf[HULWYTH_CELL_WIDTH] = {1, 1, i, 1, 0, 0, i + 1 == leaves ? 0 : i + 3};
+        memcpy(cells + HULWYTH_CELL_WIDTH * (i + 1), leaf, sizeof leaf);
     }
 }
 
 /* Balances a top with so many leaves: no packed words are handed in, and none are written. */
 static int balance(uint32_t leaves, size_t held_back)
 {
-    uint32_t cells[7 * (LEAVES + 1)], out[7 * BALANCED], work[WORK(LEAVES + 1)], info[3];
+    uint32_t cells[HULWYTH_CELL_WIDTH * (LEAVES + 1)], out[HULWYTH_CELL_WIDTH * BALANCED], work[WORK(LEAVES + 1)], info[3];
     size_t lent = WORK(leaves + 1) - held_back;
     put_leaves(cells, leaves);
-    uint32_t number = hulwyth_balance(TYPES, cells, 7 * (leaves + 1), NULL, 0, work, lent, out, 7 * BALANCED, NULL, 0, info, 3);
+    uint32_t number = hulwyth_balance(TYPES, cells, HULWYTH_CELL_WIDTH * (leaves + 1), NULL, 0, work, lent, out,
+                                      HULWYTH_CELL_WIDTH * BALANCED, NULL, 0, info, 3);
     if (!accepted("balance", number, info))
         return 0;
-    printf("  %" PRIu32 " leaves became %" PRIu32 " children\n", leaves, out[5]);
+    printf("  %" PRIu32 " leaves became %" PRIu32 " children\n", leaves, out[HULWYTH_COUNT]);
     return 1;
 }
 

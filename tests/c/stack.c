@@ -24,35 +24,40 @@ static uint32_t *records, *cells, *out, *work, info[3];
 static uint16_t *words, *packed;
 static size_t record_count, cell_count, word_count;
 static const size_t work_len = 96 * (size_t)(MANY + 100) + 96;
+static const size_t cells_len = HULWYTH_CELL_WIDTH * (size_t)ROOM;
+
+/* The words of so many records, in a list and packed. */
+static const size_t records_len = HULWYTH_RECORD_WIDTH * (size_t)MANY;
 
 /* What the call answered. */
 static uint32_t number;
 
 static void check(void)
 {
-    number = hulwyth_check(4, 2, 1024, 0, 0, records, 4 * record_count, work, work_len, info, 3);
+    number = hulwyth_check(4, 2, 1024, 0, 0, records, HULWYTH_RECORD_WIDTH * record_count, work, work_len, info, 3);
 }
 
 static void build(void)
 {
-    number = hulwyth_build(4, 2, 1024, 0, 0, 0, 0, records, 4 * record_count, work, work_len, out, 7 * (size_t)ROOM, packed,
-                           4 * (size_t)MANY, info, 3);
+    number = hulwyth_build(4, 2, 1024, 0, 0, 0, 0, records, HULWYTH_RECORD_WIDTH * record_count, work, work_len, out, cells_len,
+                           packed, records_len, info, 3);
 }
 
 static void materialise(void)
 {
-    number = hulwyth_materialise(4, cells, 7 * cell_count, words, word_count, work, work_len, out, 7 * (size_t)ROOM, info, 3);
+    number = hulwyth_materialise(4, cells, HULWYTH_CELL_WIDTH * cell_count, words, word_count, work, work_len, out, cells_len,
+                                 info, 3);
 }
 
 static void balance(void)
 {
-    number = hulwyth_balance(4, cells, 7 * cell_count, words, word_count, work, work_len, out, 7 * (size_t)ROOM, packed,
-                             4 * (size_t)MANY, info, 3);
+    number = hulwyth_balance(4, cells, HULWYTH_CELL_WIDTH * cell_count, words, word_count, work, work_len, out, cells_len, packed,
+                             records_len, info, 3);
 }
 
 static void list(void)
 {
-    number = hulwyth_list(4, 4, 0, cells, 7 * cell_count, work, work_len, out, 7 * (size_t)ROOM, info, 3);
+    number = hulwyth_list(4, 4, 0, cells, HULWYTH_CELL_WIDTH * cell_count, work, work_len, out, cells_len, info, 3);
 }
 
 static void part_check(void)
@@ -134,9 +139,9 @@ static void measure(const char *what, void (*call)(void), size_t most)
 
 static void put_record(uint32_t id, uint32_t start, uint32_t end, uint32_t size)
 {
-    const uint32_t record[4] = {id, start, end, size};
-    for (int i = 0; i < 4; i++)
-        records[4 * record_count + i] = record[i];
+    const uint32_t record[HULWYTH_RECORD_WIDTH] = {id, start, end, size};
+    for (int i = 0; i < HULWYTH_RECORD_WIDTH; i++)
+        records[HULWYTH_RECORD_WIDTH * record_count + i] = record[i];
     record_count++;
 }
 
@@ -144,9 +149,9 @@ static void put_record(uint32_t id, uint32_t start, uint32_t end, uint32_t size)
 static void record_chain(void)
 {
     record_count = 0;
-    put_record(2, 0, 2, 4);
+    put_record(2, 0, 2, HULWYTH_RECORD_WIDTH);
     for (uint32_t i = 0; i < FULL; i++)
-        put_record(1, 0, 2, 4 * (i + 2));
+        put_record(1, 0, 2, HULWYTH_RECORD_WIDTH * (i + 2));
 }
 
 /* Long records side by side, each in a repeat record, in one repeat record: each becomes a group, and the groups are balanced. */
@@ -155,17 +160,17 @@ static void record_groups(void)
     uint32_t pairs = MANY / 2 - 1;
     record_count = 0;
     for (uint32_t i = 0; i < pairs; i++) {
-        put_record(1, 8000 * i, 8000 * i + 8000, 4);
-        put_record(2, 8000 * i, 8000 * i + 8000, 8);
+        put_record(1, 8000 * i, 8000 * i + 8000, HULWYTH_RECORD_WIDTH);
+        put_record(2, 8000 * i, 8000 * i + 8000, HULWYTH_RECORD_WIDTH * 2);
     }
-    put_record(2, 0, 8000 * pairs, 8 * pairs + 4);
+    put_record(2, 0, 8000 * pairs, HULWYTH_RECORD_WIDTH * (2 * pairs + 1));
 }
 
 static void put_cell(uint32_t kind, uint32_t position, uint32_t length, uint32_t first, uint32_t count, uint32_t next)
 {
-    const uint32_t cell[7] = {kind, kind == 1, position, length, first, count, next};
-    for (int i = 0; i < 7; i++)
-        cells[7 * cell_count + i] = cell[i];
+    const uint32_t cell[HULWYTH_CELL_WIDTH] = {kind, kind == 1, position, length, first, count, next};
+    for (int i = 0; i < HULWYTH_CELL_WIDTH; i++)
+        cells[HULWYTH_CELL_WIDTH * cell_count + i] = cell[i];
     cell_count++;
 }
 
@@ -192,10 +197,10 @@ static void cell_part(uint32_t count)
 {
     cell_count = word_count = 0;
     put_cell(1, 0, 2, 2, 1, 0);
-    put_cell(2, 0, 2, 0, 4 * count, 0);
-    while (word_count < 4 * count) {
-        const uint16_t record[4] = {1, 0, 2, (uint16_t)(4 * count)};
-        for (int i = 0; i < 4; i++)
+    put_cell(2, 0, 2, 0, HULWYTH_RECORD_WIDTH * count, 0);
+    while (word_count < HULWYTH_RECORD_WIDTH * count) {
+        const uint16_t record[HULWYTH_RECORD_WIDTH] = {1, 0, 2, (uint16_t)(HULWYTH_RECORD_WIDTH * count)};
+        for (int i = 0; i < HULWYTH_RECORD_WIDTH; i++)
             words[word_count++] = record[i];
     }
 }
@@ -241,11 +246,11 @@ static void measure_part(uint32_t count)
 int main(void)
 {
     work = mapped(work_len * sizeof *work);
-    records = mapped(4 * (size_t)MANY * sizeof *records);
-    cells = mapped(7 * (size_t)ROOM * sizeof *cells);
-    out = mapped(7 * (size_t)ROOM * sizeof *out);
-    words = mapped(4 * (size_t)MANY * sizeof *words);
-    packed = mapped(4 * (size_t)MANY * sizeof *packed);
+    records = mapped(records_len * sizeof *records);
+    cells = mapped(cells_len * sizeof *cells);
+    out = mapped(cells_len * sizeof *out);
+    words = mapped(records_len * sizeof *words);
+    packed = mapped(records_len * sizeof *packed);
     measure_lists();
     measure_trees();
     measure_part(3);

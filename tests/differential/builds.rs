@@ -20,6 +20,7 @@ use crate::oracle::on_large_stack;
 use crate::random_lists;
 use crate::report::{Input, Run};
 use crate::rng::Rng;
+use crate::widths::RECORD_SIZE;
 
 /// Lists inside some 2,500 records, and lists of thousands of records.
 const DEEP: usize = 4_000;
@@ -217,9 +218,9 @@ impl Share {
             for length in [0, 2, 2_000, 65_535, 65_536, 70_000] {
                 for bound in [0, 1, 1_024, 65_535] {
                     for leaf in [0, 2] {
-                        let mut words = vec![leaf, 0, length, 4];
+                        let mut words = vec![leaf, 0, length, RECORD_SIZE];
                         for level in 1..levels {
-                            words.extend([0, 0, length, 4 * level + 4]);
+                            words.extend([0, 0, length, RECORD_SIZE * (level + 1)]);
                         }
                         let numbers = Numbers::plain(TYPES, FIRST_REPEAT, bound);
                         self.list("chains around the cut", &numbers.with(&words));

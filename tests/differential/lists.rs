@@ -14,6 +14,7 @@ use self::compare::ListSession;
 use self::model::{List, MOST_RECORDS, work_words};
 use crate::report::Run;
 use crate::rng::Rng;
+use crate::widths::{RECORD_SIZE, RECORD_WIDTH};
 
 const SHAPES: [Shape; 6] = [
     Shape::Flat,
@@ -62,7 +63,7 @@ fn random(session: &mut ListSession, rng: &mut Rng) {
 /// A list under numbers of which one is bad now and then.
 fn numbered<'a>(rng: &mut Rng, stuff: &Stuff, words: &'a [u32]) -> List<'a> {
     let types = stuff.types;
-    let need = work_words(words.len() / 4);
+    let need = work_words(words.len() / RECORD_WIDTH);
     let first = words.get(1).copied().unwrap_or(0);
     let repeats = [0, types / 2, types / 2, types - 1, types, types, u32::MAX];
     let mut list = List {
@@ -132,10 +133,10 @@ fn long(session: &mut ListSession, rng: &mut Rng) {
             (3, 6, 8),
             (3, u32::MAX - 3, 8),
         ] {
-            let good = std::mem::replace(&mut words[at * 4 + word], bad);
+            let good = std::mem::replace(&mut words[at * RECORD_WIDTH + word], bad);
             let expected = model::refused(number, at);
             session.check_against(&plain(&stuff, &words), expected);
-            words[at * 4 + word] = good;
+            words[at * RECORD_WIDTH + word] = good;
         }
     }
 }
@@ -149,7 +150,7 @@ fn plain<'a>(stuff: &Stuff, words: &'a [u32]) -> List<'a> {
         start: stuff.start,
         top: 0,
         words,
-        work: work_words(words.len() / 4),
+        work: work_words(words.len() / RECORD_WIDTH),
     }
 }
 
@@ -164,8 +165,8 @@ fn longest(session: &mut ListSession) {
         for chain in [false, true] {
             let words: Vec<u32> = (0..records as u32)
                 .flat_map(|number| match chain {
-                    true => [0, 0, 9, 4 * (number + 1)],
-                    false => [0, 9 * number, 9 * number + 9, 4],
+                    true => [0, 0, 9, RECORD_SIZE * (number + 1)],
+                    false => [0, 9 * number, 9 * number + 9, RECORD_SIZE],
                 })
                 .collect();
             let stuff = Stuff {

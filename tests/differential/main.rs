@@ -4,7 +4,8 @@
 //! inputs (`cases`, `bundles`), all short ones (`short`), the comparison of one input (`compare`) with what is expected
 //! (`model`), the recorded sample (`sample`) and the times (`bench`). What several of them use is beside this file: the
 //! exported calls (`calls`), the Rust (`rezel`, `oracle`), all short inputs (`spelling`), the slices that are lent
-//! (`lent`), samples written to files (`recording`), what is printed (`report`), options and times.
+//! (`lent`), the widths of records, cells and lines (`widths`), samples written to files (`recording`), what is printed
+//! (`report`), options and times.
 
 mod builds;
 mod calls;
@@ -21,6 +22,7 @@ mod shim;
 mod spelling;
 mod timing;
 mod trees;
+mod widths;
 
 // Shared with the comparison of the definitions.
 #[allow(dead_code)]

@@ -1,6 +1,7 @@
 //! All short inputs: every word over small alphabets, with one letter from the alphabet of each place.
 
 use crate::builds::case::{Case, Numbers};
+use crate::widths::RECORD_WIDTH;
 
 /// The next letter of a word that is told by one number; the letters of the first place change fastest.
 fn letter<A: Copy>(code: &mut usize, letters: &[A]) -> A {
@@ -128,5 +129,7 @@ impl Lists {
 
 /// So many words, whether or not they are whole records: each is the offset behind its record.
 pub fn uneven<A: From<u8>>(length: u8) -> Vec<A> {
-    (0..length).map(|at| A::from(at / 4 * 4 + 4)).collect()
+    let width = RECORD_WIDTH as u8;
+    let behind = |at| A::from((at / width + 1) * width);
+    (0..length).map(behind).collect()
 }

@@ -21,6 +21,7 @@ use crate::report::Run;
 use crate::rng::Rng;
 use crate::shapes;
 use crate::tree::NodeSet;
+use crate::widths::{CELL_WIDTH, LENGTH};
 use crate::{Tree, random_lists};
 
 /// Damaged copies of each random tree.
@@ -70,7 +71,8 @@ fn random(session: &mut TreeSession, rng: &mut Rng, sets: &[Arc<NodeSet>]) {
 /// Other numbers for the same cells: types around the boundaries, another start.
 fn renumber(rng: &mut Rng, tree: &mut Handed) {
     let types = tree.types;
-    let end = tree.cells.chunks(7).map(|cell| cell[3]).max().unwrap_or(0);
+    let lengths = tree.cells.chunks(CELL_WIDTH).map(|cell| cell[LENGTH]);
+    let end = lengths.max().unwrap_or(0);
     match rng.below(3) {
         0 => tree.types = rng.pick(&[0, types - 1, types + 1, 65_537, u32::MAX]),
         1 => tree.start = rng.pick(&[u32::MAX, u32::MAX - end, (u32::MAX - end).wrapping_add(1)]),

@@ -11,6 +11,7 @@ use crate::rng::Rng;
 use crate::timing::quickest;
 use crate::tree::TreeBuild;
 use crate::trees::rust_trees;
+use crate::widths::{CELL_WIDTH, RECORD_WIDTH};
 use crate::{TextSize, Tree, calls};
 
 /// A figure is the best of so many repeats, or of as many as fit the time.
@@ -79,8 +80,8 @@ impl Bench {
         Self {
             oracle: Oracle::default(),
             work: vec![1; work_words(MOST_RECORDS)],
-            cells: vec![1; (2 * MOST_RECORDS + 1) * 7],
-            words: vec![1; 4 * MOST_RECORDS],
+            cells: vec![1; (2 * MOST_RECORDS + 1) * CELL_WIDTH],
+            words: vec![1; MOST_RECORDS * RECORD_WIDTH],
         }
     }
 
@@ -93,16 +94,17 @@ impl Bench {
         let work = &mut self.work[..need];
         let here = best(|| build(&case, work, cells, words, &mut info));
         let [_, count, packed] = info;
-        let new = best(|| afresh(&case, count as usize * 7, packed as usize));
+        let (cells, words) = (count as usize * CELL_WIDTH, packed as usize);
+        let new = best(|| afresh(&case, cells, words));
         let rust = match shown {
-            true => self.rust(&case, count as usize * 7, packed as usize),
+            true => self.rust(&case, cells, words),
             false => None,
         };
         let theirs = rust.map_or(String::from("not run"), |time| format!("{:.2}", time * 1e3));
         let (first, second) = (ratio(here, rust), ratio(new, rust));
         println!(
             "| {name} | {} | {bound} | {count} | {packed} | {:.2} | {:.2} | {theirs} | {first} | {second} |",
-            records.len() / 4,
+            records.len() / RECORD_WIDTH,
             here * 1e3,
             new * 1e3
         );

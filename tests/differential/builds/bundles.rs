@@ -3,6 +3,7 @@
 use crate::builds::case::Records;
 use crate::lists::cases::{Shape, Stuff, good_list};
 use crate::rng::Rng;
+use crate::widths::RECORD_WIDTH;
 
 /// The shapes of a long list. Types are 0 to 2, and 2 is a repeat id where one is.
 #[derive(Clone, Copy, Debug)]
@@ -99,7 +100,8 @@ fn mixed(rng: &mut Rng, records: &mut Records, count: usize, from: u32) -> u32 {
         length: 9,
     };
     let words = good_list(rng, &stuff, count, Shape::Mixed(60, 5));
-    let end = words.chunks(4).map(|it| it[2]).max().unwrap_or(from);
+    let ends = words.chunks(RECORD_WIDTH).map(|it| it[2]);
+    let end = ends.max().unwrap_or(from);
     records.words.extend(words);
     end
 }
@@ -191,7 +193,7 @@ pub fn tight(rng: &mut Rng, shape: Shape, ordinary: usize, repeats: usize) -> Ve
     let mut left = repeats;
     for number in 0..count {
         if rng.below(count - number) < left {
-            words[number * 4] = OWN;
+            words[number * RECORD_WIDTH] = OWN;
             left -= 1;
         }
     }
@@ -216,8 +218,8 @@ pub fn wrapped(rng: &mut Rng, inner: &[u32], around: Around) -> Vec<u32> {
     let mut records = Records {
         words: inner.to_vec(),
     };
-    let end = inner.chunks(4).map(|it| it[2]).max().unwrap_or(0);
-    let mut end = end.max(around.length);
+    let ends = inner.chunks(RECORD_WIDTH).map(|it| it[2]);
+    let mut end = ends.max().unwrap_or(0).max(around.length);
     for _ in 0..around.levels {
         if rng.one_in(around.leaves) {
             let start = end;

@@ -3,6 +3,7 @@
 use crate::lists::model::{List, work_words};
 use crate::random_lists;
 use crate::report::{Input, shortened};
+use crate::widths::{RECORD_SIZE, RECORD_WIDTH};
 
 /// A list as the list check takes it, and a given length or none.
 #[derive(Clone, Copy, Debug)]
@@ -87,7 +88,7 @@ impl Numbers {
                 start: self.start,
                 top: self.top,
                 words,
-                work: work_words(words.len() / 4),
+                work: work_words(words.len() / RECORD_WIDTH),
             },
             given: self.given,
         }
@@ -120,7 +121,7 @@ impl Input for Case<'_> {
             Some(length) => format!("length {length}"),
             None => String::from("no length"),
         };
-        let records: Vec<&[u32]> = it.words.chunks(4).collect();
+        let records: Vec<&[u32]> = it.words.chunks(RECORD_WIDTH).collect();
         format!(
             "T {}, F {}, b {}, S {}, top {}, {given}, work {}, records {}",
             it.types,
@@ -147,7 +148,7 @@ pub struct Reading {
 
 /// A record's place among all, parents first, is the number of records before its span and of those around it.
 pub fn reading(records: &[u32], first_repeat: u32) -> Reading {
-    let count = records.len() / 4;
+    let count = records.len() / RECORD_WIDTH;
     // The spans around a record, outermost first: the first record in each, and the depth below it.
     let mut open: Vec<(usize, u32)> = Vec::new();
     let mut order = vec![(0, 0); count];
@@ -156,16 +157,17 @@ pub fn reading(records: &[u32], first_repeat: u32) -> Reading {
         while open.last().is_some_and(|&(first, _)| first > number) {
             open.pop();
         }
-        let first = number + 1 - records[number * 4 + 3] as usize / 4;
+        let record = record_at(records, number);
+        let first = number + 1 - record[3] as usize / RECORD_WIDTH;
         let depth = open.last().map_or(0, |&(_, below)| below);
         order[first + open.len()] = (number, depth);
-        let ordinary = records[number * 4] < first_repeat;
+        let ordinary = record[0] < first_repeat;
         open.push((first, depth + u32::from(ordinary)));
         levels = levels.max(open.len());
     }
     let mut lines = Vec::new();
     for (number, depth) in order {
-        let record = &records[number * 4..number * 4 + 4];
+        let record = record_at(records, number);
         if record[0] < first_repeat {
             lines.extend([depth, record[0], record[1], record[2]]);
         }
@@ -173,19 +175,23 @@ pub fn reading(records: &[u32], first_repeat: u32) -> Reading {
     Reading { lines, levels }
 }
 
+fn record_at(records: &[u32], number: usize) -> &[u32] {
+    &records[number * RECORD_WIDTH..][..RECORD_WIDTH]
+}
+
 /// All lists with one record less: what it held stands in its place.
 pub fn without_one(records: &[u32]) -> impl Iterator<Item = Vec<u32>> {
-    let count = records.len() / 4;
+    let count = records.len() / RECORD_WIDTH;
     (0..count).map(move |gone| {
         let mut rest = Vec::with_capacity(records.len());
-        for (number, record) in records.chunks(4).enumerate() {
+        for (number, record) in records.chunks(RECORD_WIDTH).enumerate() {
             if number == gone {
                 continue;
             }
-            let first = (number + 1).saturating_sub(record[3] as usize / 4);
+            let first = (number + 1).saturating_sub(record[3] as usize / RECORD_WIDTH);
             let held = number > gone && first <= gone;
-            let size = if held { record[3] - 4 } else { record[3] };
-            rest.extend([record[0], record[1], record[2], size]);
+            let less = if held { RECORD_SIZE } else { 0 };
+            rest.extend([record[0], record[1], record[2], record[3] - less]);
         }
         rest
     })
@@ -199,12 +205,12 @@ pub struct Records {
 
 impl Records {
     pub fn leaf(&mut self, id: u32, start: u32, end: u32) {
-        self.words.extend([id, start, end, 4]);
+        self.words.extend([id, start, end, RECORD_SIZE]);
     }
 
     /// A record around all that was written from a word offset on.
     pub fn around(&mut self, from: usize, id: u32, start: u32, end: u32) {
-        let size = self.words.len() - from + 4;
+        let size = self.words.len() - from + RECORD_WIDTH;
         self.words.extend([id, start, end, size as u32]);
     }
 }

@@ -10,6 +10,7 @@ use crate::report::shortened;
 use crate::rezel::Panicked;
 use crate::trees::model::{self, Handed};
 use crate::trees::rust_trees;
+use crate::widths::{CELL_WIDTH, COUNT, ID, KIND, LINE_WIDTH, RECORD_WIDTH};
 use crate::{Tree, calls, flatten};
 
 /// Lists of fewer records are tried with some of the slices in turn; longer ones with all of them, where they are fewer than
@@ -77,7 +78,8 @@ impl BuildSession {
         let mut info = [UNTOUCHED; 3];
         let number = calls::check(list, work, &mut info);
         let [place, count, last] = info;
-        let counted = if number == 0 { list.words.len() / 4 } else { 0 };
+        let records = list.words.len() / RECORD_WIDTH;
+        let counted = if number == 0 { records } else { 0 };
         if last != 0 || count as usize != counted || (number == 0 && place != 0) {
             return Err(format!("the list check answers {number} {info:x?}"));
         }
@@ -92,8 +94,8 @@ impl BuildSession {
     fn refused(&mut self, case: &Case, verdict: Verdict) -> Result<(), String> {
         let lent = Slices {
             work: case.list.work,
-            cells: 21,
-            words: 8,
+            cells: 3 * CELL_WIDTH,
+            words: 2 * RECORD_WIDTH,
             filling: Filling::Noise,
             held: 4,
         };
@@ -124,14 +126,15 @@ impl BuildSession {
 
     /// The build on slices that are just large enough, larger, and one word short.
     fn sized(&mut self, case: &Case, written: &Written) -> Result<(), String> {
+        let records = case.list.words.len() / RECORD_WIDTH;
         let just = Slices {
-            work: work_words(case.list.words.len() / 4),
+            work: work_words(records),
             cells: written.cells.len(),
             words: written.words.len(),
             filling: Filling::Left,
             held: 4,
         };
-        let counts = [0, just.cells as u32 / 7, just.words as u32];
+        let counts = [0, (just.cells / CELL_WIDTH) as u32, just.words as u32];
         let more = Slices {
             work: just.work + 5,
             cells: just.cells + 9,
@@ -141,7 +144,6 @@ impl BuildSession {
         };
         let with = |filling| Slices { filling, ..just };
         let good = [just, with(Filling::Noise), more, with(Filling::Zeros)];
-        let records = case.list.words.len() / 4;
         let few = records < FEW || (records < MANY && self.lists % 8 != 0);
         for lent in in_turn(&good, self.lists, few) {
             self.call(case, &lent, 0, counts, Some(written))?;
@@ -210,7 +212,7 @@ impl BuildSession {
             true => reading.lines,
             false => self.deep_lines(list, &materialised, &reading.lines),
         };
-        self.tally.seen.lines += lines.len() as u64 / 4;
+        self.tally.seen.lines += (lines.len() / LINE_WIDTH) as u64;
         self.list(&found, &lines)
     }
 
@@ -228,7 +230,7 @@ impl BuildSession {
         let mut info = [UNTOUCHED; 3];
         let mut cells = vec![UNTOUCHED; room];
         let number = calls::materialise(tree, work, &mut cells, &mut info);
-        if number != 0 || info != [0, room as u32 / 7, 0] {
+        if number != 0 || info != [0, (room / CELL_WIDTH) as u32, 0] {
             return Err(format!("materialise answers {number} {info:x?}"));
         }
         Ok(Handed {
@@ -244,7 +246,7 @@ impl BuildSession {
         let mut info = [UNTOUCHED; 3];
         let mut found = vec![UNTOUCHED; lines.len()];
         let number = calls::list(tree, work, &mut found, &mut info);
-        if number != 0 || info != [0, lines.len() as u32 / 4, 0] {
+        if number != 0 || info != [0, (lines.len() / LINE_WIDTH) as u32, 0] {
             return Err(format!("list answers {number} {info:x?}"));
         }
         if found != lines {
@@ -257,21 +259,24 @@ impl BuildSession {
         let list = &case.list;
         let seen = &mut self.tally.seen;
         let repeat = |&id: &u32| id >= list.first_repeat;
-        let records = list.words.chunks(4).filter(|it| repeat(&it[0])).count() as u64;
-        let below = || written.cells.chunks(7).skip(1);
+        let records = list.words.chunks(RECORD_WIDTH);
+        let repeats = records.clone().filter(|it| repeat(&it[0])).count() as u64;
+        let cells = written.cells.chunks(CELL_WIDTH);
+        let below = || cells.clone().skip(1);
         let trees = below()
-            .filter(|cell| cell[0] == 1 && repeat(&cell[1]))
+            .filter(|cell| cell[KIND] == 1 && repeat(&cell[ID]))
             .count() as u64;
-        let parts = |words: u32| below().filter(move |cell| cell[0] == 2 && cell[5] == words);
+        let all_parts = || below().filter(|cell| cell[KIND] == 2);
+        let parts = |words: u32| all_parts().filter(move |cell| cell[COUNT] == words);
         seen.accepted += 1;
-        seen.records += list.words.len() as u64 / 4;
-        seen.cells += written.cells.len() as u64 / 7;
+        seen.records += records.len() as u64;
+        seen.cells += cells.len() as u64;
         seen.words += written.words.len() as u64;
-        seen.parts += below().filter(|cell| cell[0] == 2).count() as u64;
+        seen.parts += all_parts().count() as u64;
         seen.empty_parts += parts(0).count() as u64;
         seen.full_parts += u64::from(parts(FULL).next().is_some());
         seen.repeat_trees += trees;
-        seen.grouped += u64::from(trees > records);
+        seen.grouped += u64::from(trees > repeats);
     }
 }
 

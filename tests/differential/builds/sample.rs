@@ -11,6 +11,7 @@ use crate::random_lists;
 use crate::recording::{self, Taken};
 use crate::rng::Rng;
 use crate::trees::rust_trees;
+use crate::widths::{CELL_WIDTH, ID, KIND, RECORD_WIDTH};
 
 /// The longest lists that are taken.
 const MOST_RECORDS: usize = 60;
@@ -53,7 +54,7 @@ impl recording::Sample for Sample {
 impl Sample {
     /// Takes a list with the Rust's answer unless it is too long.
     fn take(&mut self, rng: &mut Rng, case: &Case) {
-        if case.list.words.len() > 4 * MOST_RECORDS {
+        if case.list.words.len() > MOST_RECORDS * RECORD_WIDTH {
             return;
         }
         let number = model::check(&case.list).number;
@@ -67,7 +68,10 @@ impl Sample {
         let kind = kind(case, number, &cells);
         self.taken.take(kind, quota(number), line(case, room), || {
             let told = match number {
-                0 => format!("cells {} words {}", cells.len() / 7, words.len()),
+                0 => {
+                    let count = cells.len() / CELL_WIDTH;
+                    format!("cells {count} words {}", words.len())
+                }
                 _ => String::from("refused"),
             };
             let cells = recording::output(cells, room[0]);
@@ -87,9 +91,9 @@ fn kind(case: &Case, number: u32, cells: &[u32]) -> String {
         return format!("refused with {number}");
     }
     let list = &case.list;
-    let below = || cells.chunks(7).skip(1);
-    let parts = below().filter(|cell| cell[0] == 2).count();
-    let repeat = |cell: &&[u32]| cell[0] == 1 && cell[1] >= list.first_repeat;
+    let below = || cells.chunks(CELL_WIDTH).skip(1);
+    let parts = below().filter(|cell| cell[KIND] == 2).count();
+    let repeat = |cell: &&[u32]| cell[KIND] == 1 && cell[ID] >= list.first_repeat;
     let repeats = below().filter(repeat).count();
     let levels = reading(list.words, list.first_repeat).levels;
     let (parts, repeats, levels) = (parts.min(3), repeats.min(5), levels.min(4));

@@ -3,6 +3,7 @@
 
 use crate::builds::case::{Case, Numbers};
 use crate::spelling::{FOUR_RECORDS, Lists, NO_RECORDS, Records, TWO_TYPES, uneven};
+use crate::widths::{RECORD_SIZE, RECORD_WIDTH};
 
 const MAX: u32 = u32::MAX;
 
@@ -70,7 +71,7 @@ pub fn spelt(visit: &mut impl FnMut(&Case)) {
     for lists in ALL {
         lists.spell(&mut *visit);
     }
-    for length in (1..=13).filter(|length| length % 4 != 0) {
+    for length in (1..=13).filter(|&length| usize::from(length) % RECORD_WIDTH != 0) {
         visit(&Numbers::plain(20, 5, 3).with(&uneven(length)));
     }
 }
@@ -160,12 +161,12 @@ fn grow(
     finished: &[Finished],
     visit: &mut impl FnMut(&[u32]),
 ) {
-    if words.len() == whole.records * 4 {
+    if words.len() == whole.records * RECORD_WIDTH {
         return visit(words);
     }
     for kids in 0..=finished.len() {
         let (rest, inside) = finished.split_at(finished.len() - kids);
-        let size = 4 + inside.iter().map(|tree| tree.0).sum::<u32>();
+        let size = RECORD_SIZE + inside.iter().map(|tree| tree.0).sum::<u32>();
         let least = rest.last().map_or(0, |tree| tree.2);
         let latest = inside.first().map_or(whole.last, |tree| tree.1);
         for start in least..=latest {
@@ -176,7 +177,7 @@ fn grow(
                 for id in 0..whole.types {
                     words.extend([id, start, end, size]);
                     grow(whole, words, &trees, visit);
-                    words.truncate(words.len() - 4);
+                    words.truncate(words.len() - RECORD_WIDTH);
                 }
             }
         }

@@ -11,6 +11,7 @@ use crate::lists::List;
 use crate::rezel::tree::{NodeSet, Tree, TreeChild};
 use crate::rezel::{guarded, node_set};
 use crate::trees::Sample;
+use crate::widths::{CELL_WIDTH, KIND, LINE_WIDTH, RECORD_SIZE, RECORD_WIDTH};
 
 /// What a case is about.
 #[derive(Clone)]
@@ -149,7 +150,7 @@ impl Rust {
         Some(format!(
             "list-answer {types} {first} {bound} {start} {top} {given} {}\n    ≡ list-rust {} {} {} {} {}",
             antt::list(&records),
-            records.len() / 4,
+            records.len() / RECORD_WIDTH,
             antt::list(&flat.cells),
             antt::list(&flat.words),
             antt::list(&flatten(&materialised).cells),
@@ -158,7 +159,7 @@ impl Rust {
     }
 
     fn note(&mut self, list: &List, records: &[u32], tree: &Tree) {
-        self.seen.records += records.len() / 4;
+        self.seen.records += records.len() / RECORD_WIDTH;
         self.seen.parts += parts(&flatten(tree));
         let nesting = own_nesting(tree, list.first_repeat, None, 0);
         self.seen.grouped += usize::from(nesting > 0);
@@ -183,7 +184,7 @@ impl Rust {
             antt::list(behind_chain(&flat, around, end)),
             antt::list(&flat.words),
             antt::list(behind_chain(&flatten(&materialised), around, end)),
-            antt::list(&listed[around * 4 - 4..]),
+            antt::list(&listed[(around - 1) * LINE_WIDTH..]),
         ))
     }
 
@@ -197,13 +198,13 @@ impl Rust {
             parent,
         } = wide;
         let end = end_around(list);
-        let mut records = [*id, 0, 0, 4].repeat(*empties);
+        let mut records = [*id, 0, 0, RECORD_SIZE].repeat(*empties);
         records.extend(list.records());
         put_around(&mut records, *parent, end, 1);
         put_around(&mut records, 0, end, *around);
         let tree = self.build(list, records.clone())?;
         self.note(list, &records, &tree);
-        let rest = behind_chain(&flatten(&tree), *around, end).len() / 7;
+        let rest = behind_chain(&flatten(&tree), *around, end).len() / CELL_WIDTH;
         let outline = outline(&tree);
         Some(format!(
             "wide-answer {} {} {around} {end} {empties} {id} {parent} {}\n    ≡ {}",
@@ -236,12 +237,13 @@ impl Rust {
 /// Puts so many records of one id and range around all of a list.
 fn put_around(records: &mut Vec<u32>, id: u32, end: u32, around: usize) {
     for _ in 0..around {
-        records.extend([id, 0, end, records.len() as u32 + 4]);
+        records.extend([id, 0, end, records.len() as u32 + RECORD_SIZE]);
     }
 }
 
 fn parts(flat: &Flat) -> usize {
-    flat.cells.chunks(7).filter(|cell| cell[0] == 2).count()
+    let cells = flat.cells.chunks(CELL_WIDTH);
+    cells.filter(|cell| cell[KIND] == 2).count()
 }
 
 /// How deep trees of one repeat id stand directly in each other: 1 for groups, more for inner trees.
@@ -262,8 +264,8 @@ fn own_nesting(tree: &Tree, first_repeat: u32, around: Option<&NodeType>, depth:
 
 /// The cells behind so many of id 0 and one range, each the only child of the one before: these are held to that.
 fn behind_chain(flat: &Flat, around: usize, end: u32) -> &[u64] {
-    let (front, rest) = flat.cells.split_at(around * 7);
-    for (index, cell) in front.chunks(7).enumerate() {
+    let (front, rest) = flat.cells.split_at(around * CELL_WIDTH);
+    for (index, cell) in front.chunks(CELL_WIDTH).enumerate() {
         let next = index as u64 + 2;
         assert_eq!(cell, [1, 0, 0, end.into(), next, 1, 0], "no chain of trees");
     }

@@ -2,8 +2,9 @@
 
 use crate::TextSize;
 use crate::tree::{NodeType, Tree, TreeChild};
+use crate::widths::{CELL_WIDTH, NEXT};
 
-/// Cells, seven words each, and packed words.
+/// Cells, `CELL_WIDTH` words each, and packed words.
 #[derive(Clone, Debug, Default, PartialEq)]
 pub struct Flat {
     pub cells: Vec<u64>,
@@ -57,13 +58,13 @@ fn kind_and_id(kind: &NodeType) -> (u64, u64) {
 /// The word `next` of the cell at a word offset: the cell after its last descendant, where a sibling follows.
 fn link(flat: &mut Flat, at: usize, last: bool) {
     if !last {
-        flat.cells[at + 6] = number(flat.cells.len());
+        flat.cells[at + NEXT] = number(flat.cells.len());
     }
 }
 
 /// The number of the cell at a word offset.
 fn number(at: usize) -> u64 {
-    (at / 7 + 1) as u64
+    (at / CELL_WIDTH + 1) as u64
 }
 
 fn value(size: TextSize) -> u64 {

@@ -6,6 +6,7 @@ use crate::TextSize;
 use crate::forests::{MOST_RECORDS, Maker, Node, count};
 use crate::rng::Rng;
 use crate::tree::{NodeSet, TreeBuild};
+use crate::widths::RECORD_WIDTH;
 
 /// A record list and what a build is given with it, in document 01's letters: T, F, b, S, top id, length.
 #[derive(Clone, Debug)]
@@ -31,7 +32,7 @@ impl std::fmt::Display for List {
             Some(length) => write!(out, "length {length}, records")?,
             None => write!(out, "no length, records")?,
         }
-        for it in self.records().chunks(4) {
+        for it in self.records().chunks(RECORD_WIDTH) {
             write!(out, " ({},{},{},{})", it[0], it[1], it[2], it[3])?;
         }
         Ok(())
@@ -81,7 +82,7 @@ fn write_records(forest: &[Node], words: &mut Vec<u32>) {
     for node in forest {
         let before = words.len();
         write_records(&node.kids, words);
-        let size = words.len() - before + 4;
+        let size = words.len() - before + RECORD_WIDTH;
         words.extend([node.id, node.start, node.end, size as u32]);
     }
 }

@@ -19,6 +19,9 @@ mod rezel;
 mod rng;
 #[path = "../shim.rs"]
 mod shim;
+#[allow(dead_code)]
+#[path = "../widths.rs"]
+mod widths;
 
 // The names that the Rust sources expect at the root of their crate.
 pub use rezel::root::*;

@@ -5,6 +5,7 @@ use crate::forests::{Node, count};
 use crate::lists::List;
 use crate::rezel::tree::{Tree, TreeChild};
 use crate::trees::Sample;
+use crate::widths::RECORD_WIDTH;
 
 /// All inputs one step smaller, the smallest first.
 pub fn smaller(input: &Input) -> Vec<Input> {
@@ -43,7 +44,7 @@ pub fn size(input: &Input) -> usize {
 fn tree_size(tree: &Tree) -> usize {
     let sizes = tree.children().iter().map(|child| match child {
         TreeChild::Tree(kid) => tree_size(kid),
-        TreeChild::Buffer(buffer) => 1 + buffer.data().len() / 4,
+        TreeChild::Buffer(buffer) => 1 + buffer.data().len() / RECORD_WIDTH,
     });
     1 + sizes.sum::<usize>()
 }

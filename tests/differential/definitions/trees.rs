@@ -6,6 +6,7 @@ use crate::TextSize;
 use crate::flatten::{Flat, flatten};
 use crate::rng::Rng;
 use crate::tree::{NodeSet, NodeType, Tree, TreeBuffer, TreeChild};
+use crate::widths::{CELL_WIDTH, RECORD_WIDTH};
 
 /// A tree, the number of its types, and F and S for a listing of it.
 #[derive(Clone)]
@@ -21,7 +22,7 @@ impl std::fmt::Display for Sample {
         let Flat { cells, words } = flatten(&self.tree);
         let (types, first, start) = (self.types, self.first_repeat, self.start);
         write!(out, "T {types}, F {first}, S {start}, cells")?;
-        for cell in cells.chunks(7) {
+        for cell in cells.chunks(CELL_WIDTH) {
             write!(out, " {cell:?}")?;
         }
         write!(out, ", words {words:?}")
@@ -178,9 +179,9 @@ impl Maker<'_> {
         self.left -= records;
         let mut words = Vec::new();
         let mut end = 0;
-        while words.len() < records * 4 {
+        while words.len() < records * RECORD_WIDTH {
             end += self.rng.pick(&[0, 0, 1]);
-            let most = records - words.len() / 4;
+            let most = records - words.len() / RECORD_WIDTH;
             end = self.packed(&mut words, end, most);
         }
         let length = u32::from(end) + self.rng.pick(&[0, 0, 2]);
@@ -194,9 +195,9 @@ impl Maker<'_> {
         let id = self.rng.below(self.set.types().len()) as u16;
         words.extend([id, start, 0, 0]);
         let mut end = start;
-        while (words.len() - at) / 4 < most && self.rng.one_in(2) {
+        while (words.len() - at) / RECORD_WIDTH < most && self.rng.one_in(2) {
             end += self.rng.pick(&[0, 0, 1, 2]);
-            let left = most - (words.len() - at) / 4;
+            let left = most - (words.len() - at) / RECORD_WIDTH;
             end = self.packed(words, end, left);
         }
         end += self.rng.pick(&[0, 0, 1, 2, 6]);

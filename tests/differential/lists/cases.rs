@@ -1,6 +1,7 @@
 //! Random forests written as record lists, and damaged copies of them.
 
 use crate::rng::Rng;
+use crate::widths::{RECORD_SIZE, RECORD_WIDTH};
 
 /// How many of the finished trees before it a record takes as its children.
 #[derive(Clone, Copy, Debug)]
@@ -62,7 +63,7 @@ struct Finished {
 
 /// A list that is accepted under the numbers it was made for (at least one type).
 pub fn good_list(rng: &mut Rng, stuff: &Stuff, records: usize, shape: Shape) -> Vec<u32> {
-    let mut words = Vec::with_capacity(records * 4);
+    let mut words = Vec::with_capacity(records * RECORD_WIDTH);
     let mut finished: Vec<Finished> = Vec::new();
     for _ in 0..records {
         let children = adopted(rng, &finished, shape);
@@ -91,7 +92,8 @@ fn adopted(rng: &mut Rng, finished: &[Finished], shape: Shape) -> usize {
             1 + rng.below(most.min(count))
         }
         Shape::Wide(leaves) => {
-            let last = finished.iter().rev().take_while(|it| it.size == 4);
+            let leaf = |it: &&Finished| it.size == RECORD_SIZE;
+            let last = finished.iter().rev().take_while(leaf);
             if last.count() == leaves { leaves } else { 0 }
         }
         Shape::Binary => match finished {
@@ -107,13 +109,13 @@ fn around(rng: &mut Rng, stuff: &Stuff, before: u32, children: &[Finished]) -> F
     let (Some(first), Some(last)) = (children.first(), children.last()) else {
         let start = before.saturating_add(gap(rng));
         return Finished {
-            size: 4,
+            size: RECORD_SIZE,
             start,
             end: start.saturating_add(rng.below(stuff.length + 1) as u32),
         };
     };
     Finished {
-        size: 4 + children.iter().map(|child| child.size).sum::<u32>(),
+        size: RECORD_SIZE + children.iter().map(|child| child.size).sum::<u32>(),
         start: first.start.saturating_sub(gap(rng)).max(before),
         end: last.end.saturating_add(gap(rng)),
     }
@@ -127,22 +129,17 @@ pub fn damaged(rng: &mut Rng, types: u32, words: &[u32]) -> Vec<u32> {
         return copy;
     }
     let at = rng.below(copy.len());
-    let record = at / 4 * 4;
+    let record = at / RECORD_WIDTH * RECORD_WIDTH;
     match rng.below(20) {
         0 => drop(copy.remove(at)),
         1 => copy.insert(at, rng.next() as u32),
-        2 => drop(copy.drain(record..record + 4)),
+        2 => drop(copy.drain(record..record + RECORD_WIDTH)),
         3 => {
-            let four = [
-                copy[record],
-                copy[record + 1],
-                copy[record + 2],
-                copy[record + 3],
-            ];
-            copy.splice(record..record, four);
+            let doubled = copy[record..record + RECORD_WIDTH].to_vec();
+            copy.splice(record..record, doubled);
         }
-        4 => copy[record..].rotate_left(4),
-        5 => copy.truncate(record + 4),
+        4 => copy[record..].rotate_left(RECORD_WIDTH),
+        5 => copy.truncate(record + RECORD_WIDTH),
         _ => copy[at] = boundary_word(rng, types, words, at),
     }
     copy
@@ -151,10 +148,11 @@ pub fn damaged(rng: &mut Rng, types: u32, words: &[u32]) -> Vec<u32> {
 /// A value at or beside a boundary of the rule that a word is under.
 fn boundary_word(rng: &mut Rng, types: u32, words: &[u32], at: usize) -> u32 {
     let word = words[at];
-    let past = (at / 4 + 1) as u32 * 4;
-    let other = words[rng.below(words.len() / 4) * 4 + at % 4];
+    let (record, place) = (at / RECORD_WIDTH, at % RECORD_WIDTH);
+    let past = (record as u32 + 1) * RECORD_SIZE;
+    let other = words[rng.below(words.len() / RECORD_WIDTH) * RECORD_WIDTH + place];
     let beside = [word.wrapping_add(1), word.wrapping_sub(1)];
-    match at % 4 {
+    match place {
         0 => rng.pick(&[
             types,
             types.wrapping_sub(1),
@@ -165,7 +163,7 @@ fn boundary_word(rng: &mut Rng, types: u32, words: &[u32], at: usize) -> u32 {
             u32::MAX,
         ]),
         1 | 2 => {
-            let twin = words[at / 4 * 4 + 3 - at % 4];
+            let twin = words[record * RECORD_WIDTH + 3 - place];
             let near = [
                 beside[0],
                 beside[1],
@@ -200,7 +198,7 @@ fn boundary_word(rng: &mut Rng, types: u32, words: &[u32], at: usize) -> u32 {
                 word.wrapping_add(4),
                 word.wrapping_sub(4),
             ];
-            let within = 4 * (1 + rng.below(past as usize / 4)) as u32;
+            let within = RECORD_SIZE * (1 + rng.below(record + 1)) as u32;
             let (one, wild) = (rng.pick(&right), rng.pick(&wrong));
             rng.pick(&[one, one, within, wild])
         }

@@ -6,6 +6,7 @@ use crate::lists::model::{self, List, Verdict};
 use crate::oracle::Oracle;
 use crate::report::{Input, Outcome, Run, Tally, shortened};
 use crate::rezel::Panicked;
+use crate::widths::RECORD_WIDTH;
 
 /// Refused lists of more records are not shown to the Rust: spans that cross may make it recurse once a record.
 const MOST_SHOWN_REFUSED: usize = 10_000;
@@ -140,7 +141,7 @@ fn not_shown(list: &List, number: u32) -> Option<&'static str> {
             Some("list 2, 3, not shown: a top id of more than 16 bits cannot be handed to the Rust")
         }
         11 => Some("list 11, not shown: the Rust allocates and is lent no work slice"),
-        6..=10 if list.words.len() / 4 > MOST_SHOWN_REFUSED => Some(
+        6..=10 if list.words.len() / RECORD_WIDTH > MOST_SHOWN_REFUSED => Some(
             "list 6 to 10, not shown: more than 10,000 records, on which the Rust may run out of stack",
         ),
         _ => None,
@@ -149,15 +150,15 @@ fn not_shown(list: &List, number: u32) -> Option<&'static str> {
 
 /// Why the Rust builds a list that document 01 refuses; none where nothing explains it.
 fn built_though_refused(list: &List, verdict: Verdict) -> Option<&'static str> {
-    let records = list.words.len() / 4;
+    let records = list.words.len() / RECORD_WIDTH;
     let below_the_cut = records > ABOVE_THE_CUT;
     let place = verdict.place as usize;
-    let repeat = (list.words.get(place * 4)).is_some_and(|&id| id >= list.first_repeat);
+    let repeat = (list.words.get(place * RECORD_WIDTH)).is_some_and(|&id| id >= list.first_repeat);
     let last = place + 1 == records;
     match verdict.number {
         // The Rust starts with the last record and looks at all of it.
         6..=8 if last => None,
-        10 if last && list.words[place * 4 + 1] < list.start => None,
+        10 if last && list.words[place * RECORD_WIDTH + 1] < list.start => None,
         5 => Some("list 5: the Rust sets no limit to the records"),
         6 if repeat => {
             Some("list 6: the Rust passes over a repeat record and does not look up its id")

@@ -5,6 +5,8 @@
 
 use std::ops::Range;
 
+use crate::widths::RECORD_WIDTH;
+
 /// A list with the numbers that the call takes beside it.
 #[derive(Clone, Copy, Debug)]
 pub struct List<'a> {
@@ -58,17 +60,23 @@ struct Record {
 }
 
 fn record(words: &[u32], number: usize) -> Record {
+    let at = number * RECORD_WIDTH;
     Record {
-        id: words[number * 4].into(),
-        start: words[number * 4 + 1].into(),
-        end: words[number * 4 + 2].into(),
-        size: words[number * 4 + 3].into(),
+        id: words[at].into(),
+        start: words[at + 1].into(),
+        end: words[at + 2].into(),
+        size: words[at + 3].into(),
     }
+}
+
+/// The word offset behind a record.
+fn past(number: usize) -> u64 {
+    ((number + 1) * RECORD_WIDTH) as u64
 }
 
 /// The size words ending with a record's last, for a size that passes 8.
 fn span(words: &[u32], number: usize) -> Range<u64> {
-    let past = 4 * (number as u64 + 1);
+    let past = past(number);
     past - record(words, number).size..past
 }
 
@@ -77,7 +85,8 @@ fn holds(outer: &Range<u64>, inner: &Range<u64>) -> bool {
 }
 
 fn size_is_bad(size: u64, number: usize) -> bool {
-    size < 4 || size % 4 != 0 || size > 4 * (number as u64 + 1)
+    let width = RECORD_WIDTH as u64;
+    size < width || size % width != 0 || size > past(number)
 }
 
 /// 9, for a record before which none of 6 to 9 applies.
@@ -108,7 +117,7 @@ fn fault(list: &List, number: usize) -> u32 {
 /// The record with the smallest span that holds a record's, itself aside; none on the first level.
 fn parent(words: &[u32], number: usize) -> Option<usize> {
     let own = span(words, number);
-    (0..words.len() / 4)
+    (0..words.len() / RECORD_WIDTH)
         .filter(|&other| other != number && holds(&span(words, other), &own))
         .min_by_key(|&other| record(words, other).size)
 }
@@ -136,14 +145,14 @@ fn out_of_place(list: &List, parents: &[Option<usize>], number: usize) -> bool {
 
 /// 1, 2, 3, 4, 5 and 11: what is refused before a record is looked at.
 fn early(list: &List) -> Option<u32> {
-    let records = list.words.len() / 4;
+    let records = list.words.len() / RECORD_WIDTH;
     if list.types > 65_536 {
         Some(1)
     } else if list.bound > 65_535 {
         Some(2)
     } else if list.top >= list.types {
         Some(3)
-    } else if list.words.len() % 4 != 0 {
+    } else if list.words.len() % RECORD_WIDTH != 0 {
         Some(4)
     } else if records > MOST_RECORDS {
         Some(5)
@@ -158,7 +167,7 @@ pub fn check(list: &List) -> Verdict {
     if let Some(number) = early(list) {
         return refused(number, 0);
     }
-    let records = list.words.len() / 4;
+    let records = list.words.len() / RECORD_WIDTH;
     for number in 0..records {
         let refusal = fault(list, number);
         if refusal != 0 {

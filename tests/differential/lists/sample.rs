@@ -9,6 +9,7 @@ use crate::lists::model::{self, List, work_words};
 use crate::oracle::Oracle;
 use crate::recording::{self, Taken};
 use crate::rng::Rng;
+use crate::widths::RECORD_WIDTH;
 
 const MOST_RECORDS: usize = 12;
 
@@ -77,7 +78,7 @@ impl recording::Sample for Sample {
 impl Sample {
     /// Takes a list on which both agree; the program that is asked lends a work slice that is large enough.
     fn take(&mut self, list: &List) {
-        let records = list.words.len() / 4;
+        let records = list.words.len() / RECORD_WIDTH;
         let number = model::check(&List {
             work: work_words(records),
             ..*list

@@ -10,6 +10,7 @@ use crate::oracle::{self, Oracle};
 use crate::parts::cases::{self, MOST_RECORDS, Nesting};
 use crate::parts::model::{Search, Slice};
 use crate::rng::Rng;
+use crate::widths::RECORD_WIDTH;
 
 const TYPES: u32 = 300;
 
@@ -97,7 +98,7 @@ fn one_part(oracle: &mut Oracle, shape: &str, words: &[u16]) {
 fn line(call: &str, shape: &str, words: &[u16], ours: f64, rust: f64, with_new: Option<f64>) {
     print!(
         "{call:8}{shape:8}{:>8}{ours:>10.2}{rust:>10.3}{:>8.2}",
-        words.len() / 4,
+        words.len() / RECORD_WIDTH,
         ours / rust
     );
     match with_new {
@@ -107,7 +108,7 @@ fn line(call: &str, shape: &str, words: &[u16], ours: f64, rust: f64, with_new: 
 }
 
 fn calls_a_repeat(words: &[u16]) -> usize {
-    RECORDS_A_REPEAT.div_ceil(words.len() / 4)
+    RECORDS_A_REPEAT.div_ceil(words.len() / RECORD_WIDTH)
 }
 
 /// Nanoseconds a record of a call.
@@ -129,5 +130,5 @@ fn best_of(words: &[u16], mut batch: impl FnMut(&mut Vec<Vec<u16>>)) -> f64 {
         batch(&mut copies);
         least = least.min(start.elapsed().as_nanos() as f64);
     }
-    least / (calls * words.len() / 4) as f64
+    least / (calls * words.len() / RECORD_WIDTH) as f64
 }

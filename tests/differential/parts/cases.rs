@@ -3,6 +3,7 @@
 use crate::parts::compare::{Part, PartSession};
 use crate::parts::model::{Search, Slice};
 use crate::rng::Rng;
+use crate::widths::RECORD_WIDTH;
 
 /// The records of the longest part that can be accepted: end indices have 16 bits.
 pub const MOST_RECORDS: usize = 16_383;
@@ -23,12 +24,12 @@ fn end_indices(rng: &mut Rng, records: usize, nesting: Nesting) -> Vec<u16> {
     for record in 0..records {
         for _ in 0..closed(rng, open.len(), nesting) {
             let finished = open.pop().expect("no more are closed than are open");
-            ends[finished] = (record * 4) as u16;
+            ends[finished] = (record * RECORD_WIDTH) as u16;
         }
         open.push(record);
     }
     for left in open {
-        ends[left] = (records * 4) as u16;
+        ends[left] = (records * RECORD_WIDTH) as u16;
     }
     ends
 }
@@ -58,7 +59,7 @@ pub fn good_part(
     let ends = end_indices(rng, records, nesting);
     let in_order = rng.one_in(2);
     let mut reached = 0;
-    let mut words = Vec::with_capacity(records * 4);
+    let mut words = Vec::with_capacity(records * RECORD_WIDTH);
     for end_index in ends {
         let (start, end) = range(rng, widest, in_order.then_some(reached));
         reached = start;
@@ -96,7 +97,10 @@ pub fn damaged(rng: &mut Rng, types: u32, words: &[u16]) -> Vec<u16> {
     match rng.below(10) {
         0 => drop(copy.remove(at)),
         1 => copy.insert(at, rng.next() as u16),
-        2 => drop(copy.drain(at / 4 * 4..(at / 4 * 4 + 4).min(words.len()))),
+        2 => {
+            let record = at / RECORD_WIDTH * RECORD_WIDTH;
+            drop(copy.drain(record..(record + RECORD_WIDTH).min(words.len())));
+        }
         _ => copy[at] = boundary_word(rng, types, words, at),
     }
     copy
@@ -104,7 +108,7 @@ pub fn damaged(rng: &mut Rng, types: u32, words: &[u16]) -> Vec<u16> {
 
 /// A value at or beside a boundary of the rule that the word at an offset is under.
 fn boundary_word(rng: &mut Rng, types: u32, words: &[u16], at: usize) -> u16 {
-    let offset = at / 4 * 4;
+    let offset = at / RECORD_WIDTH * RECORD_WIDTH;
     let other = words[rng.below(words.len())];
     let near = [
         words[at].wrapping_add(1),
@@ -117,10 +121,10 @@ fn boundary_word(rng: &mut Rng, types: u32, words: &[u16], at: usize) -> u16 {
         types as u16,
         (types as u16).wrapping_sub(1),
         offset as u16,
-        (offset + 4) as u16,
-        (offset + 8) as u16,
+        (offset + RECORD_WIDTH) as u16,
+        (offset + 2 * RECORD_WIDTH) as u16,
         words.len() as u16,
-        (words.len() + 4) as u16,
+        (words.len() + RECORD_WIDTH) as u16,
     ];
     rng.pick(&near)
 }
@@ -137,7 +141,7 @@ pub fn calls(session: &mut PartSession, rng: &mut Rng, part: &Part, count: usize
 /// position, and the numbers beside them.
 pub fn sweep(session: &mut PartSession, rng: &mut Rng, part: &Part) {
     let length = part.words.len();
-    for record in part.words.chunks_exact(4) {
+    for record in part.words.chunks_exact(RECORD_WIDTH) {
         for bound in beside(usize::from(record[3])) {
             let (from, to) = rng.pick(&[(0, bound), (bound, length)]);
             let slice = slice_call(rng, &part.words);
@@ -185,7 +189,7 @@ fn bounds(rng: &mut Rng, words: &[u16]) -> (usize, usize) {
         4 => (from, to.wrapping_sub(1)),
         5 => (
             from,
-            rng.pick(&[words.len() + 4, usize::MAX, usize::MAX - 3]),
+            rng.pick(&[words.len() + RECORD_WIDTH, usize::MAX, usize::MAX - 3]),
         ),
         _ => (from, to),
     }
@@ -193,7 +197,7 @@ fn bounds(rng: &mut Rng, words: &[u16]) -> (usize, usize) {
 
 /// The offset of a record, an end index, the start or the end of the part.
 fn boundary(rng: &mut Rng, words: &[u16]) -> usize {
-    let records = words.len() / 4;
+    let records = words.len() / RECORD_WIDTH;
     if records == 0 {
         return 0;
     }
@@ -201,8 +205,8 @@ fn boundary(rng: &mut Rng, words: &[u16]) -> usize {
     match rng.below(8) {
         0 => words.len(),
         1 | 2 => 0,
-        3 | 4 => usize::from(words[record * 4 + 3]),
-        _ => record * 4,
+        3 | 4 => usize::from(words[record * RECORD_WIDTH + 3]),
+        _ => record * RECORD_WIDTH,
     }
 }
 
@@ -210,7 +214,7 @@ fn boundary(rng: &mut Rng, words: &[u16]) -> usize {
 fn way_on(rng: &mut Rng, words: &[u16], from: usize) -> usize {
     let mut at = from;
     for _ in 0..rng.pick(&[0, 1, 1, 2, 3, 10, words.len()]) {
-        if at + 4 > words.len() || usize::from(words[at + 3]) <= at {
+        if at + RECORD_WIDTH > words.len() || usize::from(words[at + 3]) <= at {
             break;
         }
         at = usize::from(words[at + 3]);
@@ -220,20 +224,19 @@ fn way_on(rng: &mut Rng, words: &[u16], from: usize) -> usize {
 
 /// The start or the end of some record, and one beside it now and then.
 fn point(rng: &mut Rng, words: &[u16], from: usize, to: usize) -> u32 {
-    let records = words.len() / 4;
+    let records = words.len() / RECORD_WIDTH;
     if records == 0 {
         return rng.below(3) as u32;
     }
-    let inside = from / 4 < records && from < to && rng.one_in(2);
+    let first = from / RECORD_WIDTH;
+    let inside = first < records && from < to && rng.one_in(2);
     let record = if inside {
-        from / 4
-            + rng
-                .below((to.min(words.len()) - from).div_ceil(4))
-                .min(records - 1 - from / 4)
+        let count = (to.min(words.len()) - from).div_ceil(RECORD_WIDTH);
+        first + rng.below(count).min(records - 1 - first)
     } else {
         rng.below(records)
     };
-    let word = u32::from(words[record * 4 + 1 + rng.below(2)]);
+    let word = u32::from(words[record * RECORD_WIDTH + 1 + rng.below(2)]);
     match rng.below(4) {
         0 => word + 1,
         1 => word.saturating_sub(1),
@@ -246,7 +249,7 @@ pub fn slice_call(rng: &mut Rng, words: &[u16]) -> Slice {
     let starts = words
         .get(from..to)
         .unwrap_or(&[])
-        .chunks_exact(4)
+        .chunks_exact(RECORD_WIDTH)
         .map(|it| it[1]);
     let least = u32::from(starts.min().unwrap_or(0));
     let base = match rng.below(12) {

@@ -3,6 +3,8 @@
 //! Nothing here is fast or shared with the library: 20 looks at all earlier records, a cut is rebased first and then
 //! looked at as a part of its own, and the way of a search is collected before it is used.
 
+use crate::widths::RECORD_WIDTH;
+
 /// What a call answers. Refused: the number, the place, counts 0. Accepted: number 0, place 0 and the counts.
 #[derive(Clone, Copy, Debug, Eq, PartialEq)]
 pub struct Answer {
@@ -66,13 +68,14 @@ fn record(words: &[u16], offset: usize) -> Record {
 
 /// 19 for a record at an offset of a part of so many words.
 fn index_is_bad(index: u64, offset: usize, words: usize) -> bool {
-    index < offset as u64 + 4 || index > words as u64 || index % 4 != 0
+    let width = RECORD_WIDTH as u64;
+    index < offset as u64 + width || index > words as u64 || index % width != 0
 }
 
 /// 20: some earlier record whose end index lies past this offset encloses it, and this end index is above that one.
 fn leaves_an_enclosing_record(words: &[u16], offset: usize, index: u64) -> bool {
-    (0..offset / 4).any(|earlier| {
-        let around = u64::from(words[earlier * 4 + 3]);
+    (0..offset / RECORD_WIDTH).any(|earlier| {
+        let around = u64::from(words[earlier * RECORD_WIDTH + 3]);
         around > offset as u64 && index > around
     })
 }
@@ -98,16 +101,16 @@ pub fn check(types: u32, words: &[u16]) -> Answer {
     if types > 65_536 {
         return refused(1, 0);
     }
-    if words.len() % 4 != 0 {
+    if words.len() % RECORD_WIDTH != 0 {
         return refused(16, 0);
     }
-    for offset in (0..words.len()).step_by(4) {
+    for offset in (0..words.len()).step_by(RECORD_WIDTH) {
         let number = fault(types, words, offset);
         if number != 0 {
             return refused(number, offset);
         }
     }
-    accepted(words.len() / 4, 0)
+    accepted(words.len() / RECORD_WIDTH, 0)
 }
 
 /// 21, then 22, on the bounds of a part of so many words.
@@ -115,7 +118,7 @@ fn bounds(from: usize, to: usize, words: usize) -> Option<Answer> {
     if from > to || from > words || to > words {
         return Some(refused(21, 0));
     }
-    if from % 4 != 0 || to % 4 != 0 {
+    if from % RECORD_WIDTH != 0 || to % RECORD_WIDTH != 0 {
         return Some(refused(22, 0));
     }
     None
@@ -146,7 +149,7 @@ fn sliced(
     if let Some(answer) = bounds(call.from, call.to, words.len()) {
         return Err(answer);
     }
-    let offsets = || (call.from..call.to).step_by(4);
+    let offsets = || (call.from..call.to).step_by(RECORD_WIDTH);
     if let Some(offset) = offsets().find(|&at| u64::from(call.base) > record(words, at).start) {
         return Err(refused(23, offset));
     }
@@ -158,7 +161,7 @@ fn sliced(
     if room < cut.len() {
         return Err(refused(13, 0));
     }
-    let length = cut.chunks(4).map(|it| it[2]).max().unwrap_or(0);
+    let length = cut.chunks(RECORD_WIDTH).map(|it| it[2]).max().unwrap_or(0);
     let out = cut.iter().map(|&word| word as u16).collect();
     Ok((accepted(cut.len(), length), out))
 }
@@ -166,7 +169,7 @@ fn sliced(
 /// The cut with the base taken from starts and ends, and the first bound from end indices.
 fn rebased(words: &[u16], call: &Slice) -> Vec<u64> {
     let mut cut = Vec::new();
-    for offset in (call.from..call.to).step_by(4) {
+    for offset in (call.from..call.to).step_by(RECORD_WIDTH) {
         let it = record(words, offset);
         let base = u64::from(call.base);
         cut.extend([

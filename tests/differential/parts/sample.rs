@@ -9,6 +9,7 @@ use crate::parts::compare::{Part, search_rust, slice_rust};
 use crate::parts::model::{self, Search, Slice};
 use crate::recording::{self, Taken, counted};
 use crate::rng::Rng;
+use crate::widths::RECORD_WIDTH;
 
 /// Bounds above this are left out, so that a reader of the lines needs no more than 32 bits.
 const FARTHEST: usize = u32::MAX as usize;
@@ -80,7 +81,7 @@ impl Sample {
     fn check(&mut self, part: &Part) {
         let number = part.verdict.number;
         let answer = match part.rust() {
-            Ok(buffer) => format!("records {}", buffer.data().len() / 4),
+            Ok(buffer) => format!("records {}", buffer.data().len() / RECORD_WIDTH),
             Err(_) => String::from("refused"),
         };
         if (number == 0) != part.rust().is_ok() {

@@ -3,6 +3,7 @@
 use crate::parts::compare::{Part, PartSession};
 use crate::parts::model::{Search, Slice};
 use crate::spelling::{Records, uneven};
+use crate::widths::RECORD_WIDTH;
 
 /// Numbers of types: none, few, as many as ids have, and one too many.
 const TYPES: [u32; 5] = [0, 1, 2, 65_536, 65_537];
@@ -67,11 +68,12 @@ fn with_calls(session: &mut PartSession, types: u32, words: &[u16]) {
         calls_at(session, &part, 0, length);
         return;
     }
-    let far = [length + 4, usize::MAX - 3, usize::MAX];
+    let far = [length + RECORD_WIDTH, usize::MAX - 3, usize::MAX];
     let bounds = || (0..=length + 1).chain(far);
     for from in bounds() {
         for to in bounds() {
-            if from <= to && to <= length && from % 4 == 0 && to % 4 == 0 {
+            let whole = from % RECORD_WIDTH == 0 && to % RECORD_WIDTH == 0;
+            if from <= to && to <= length && whole {
                 slices(session, &part, from, to);
                 searches(session, &part, from, to);
             } else {

@@ -11,6 +11,7 @@ use crate::tree::{NodeType, TreeChild};
 use crate::trees::cases::{self, Mix};
 use crate::trees::model::{Handed, work_words};
 use crate::trees::rust_trees;
+use crate::widths::{CELL_WIDTH, NEXT};
 use crate::{Tree, calls};
 
 /// Each figure is the best of so many repeats.
@@ -102,8 +103,8 @@ impl Bench {
         let items = 2 * NODES;
         Self {
             oracle: Oracle::default(),
-            work: vec![1; work_words(items * 7, 0)],
-            out: vec![1; items * 7],
+            work: vec![1; work_words(items * CELL_WIDTH, 0)],
+            out: vec![1; items * CELL_WIDTH],
         }
     }
 
@@ -115,7 +116,7 @@ impl Bench {
         let mut packed = vec![0; tree.words.len()];
         let row = Row {
             shape: name,
-            cells: tree.cells.len() / 7,
+            cells: tree.cells.len() / CELL_WIDTH,
         };
         let ours = best(|| calls::balance(black_box(tree), work, out, &mut packed, &mut info));
         let (balanced, _) = cells(&rust.balance());
@@ -127,7 +128,7 @@ impl Bench {
         let count = info[1];
         row.print("materialise", count, ours, theirs);
         let listed = Handed {
-            cells: out[..count as usize * 7].to_vec(),
+            cells: out[..count as usize * CELL_WIDTH].to_vec(),
             words: Vec::new(),
             ..*tree
         };
@@ -184,14 +185,14 @@ fn write_tree(
     let first = if count == 0 {
         0
     } else {
-        cells.len() as u32 / 7 + 2
+        number(cells.len()) + 1
     };
     cells.extend([kind, id, position, tree.len().into(), first, count, 0]);
     let mut before = None;
     for (child, &position) in tree.children().iter().zip(tree.positions()) {
         let at = cells.len();
         if let Some(before) = before {
-            cells[before + 6] = at as u32 / 7 + 1;
+            cells[before + NEXT] = number(at);
         }
         before = Some(at);
         match child {
@@ -204,6 +205,11 @@ fn write_tree(
             }
         }
     }
+}
+
+/// The number of the cell at a word offset.
+fn number(at: usize) -> u32 {
+    (at / CELL_WIDTH + 1) as u32
 }
 
 /// The lines of a materialised tree, as a walk over the Rust's own finds them.

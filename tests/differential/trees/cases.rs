@@ -5,6 +5,9 @@ use crate::lists::cases::{Shape, Stuff, good_list};
 use crate::parts::cases::MOST_RECORDS;
 use crate::rng::Rng;
 use crate::trees::model::Handed;
+use crate::widths::{
+    CELL_WIDTH, COUNT, FIRST, ID, KIND, LENGTH, NEXT, POSITION, RECORD_SIZE, RECORD_WIDTH,
+};
 
 /// How the nodes of a forest become cells.
 #[derive(Clone, Copy, Debug)]
@@ -52,8 +55,8 @@ pub fn tree_over(rng: &mut Rng, types: u32, forest: &[Node], mix: Mix) -> Handed
 pub fn forest(records: &[u32]) -> Vec<Node> {
     let mut finished: Vec<Node> = Vec::new();
     let mut sizes: Vec<u32> = Vec::new();
-    for it in records.chunks(4) {
-        let mut left = it[3] - 4;
+    for it in records.chunks(RECORD_WIDTH) {
+        let mut left = it[3] - RECORD_SIZE;
         let mut first = finished.len();
         while left > 0 {
             first -= 1;
@@ -88,7 +91,7 @@ impl Writer<'_> {
     }
 
     /// A cell with its descendants, of a tree that starts at `start`.
-    fn cell(&mut self, words: [u32; 7], kids: &[Node], start: u32) {
+    fn cell(&mut self, words: [u32; CELL_WIDTH], kids: &[Node], start: u32) {
         let at = self.tree.cells.len();
         self.tree.cells.extend(words);
         let mut chain: Vec<usize> = Vec::new();
@@ -106,12 +109,11 @@ impl Writer<'_> {
     }
 
     fn link(&mut self, at: usize, chain: &[usize]) {
-        let number = |at: usize| (at / 7 + 1) as u32;
         let cells = &mut self.tree.cells;
-        cells[at + 4] = chain.first().map_or(0, |&first| number(first));
-        cells[at + 5] = chain.len() as u32;
+        cells[at + FIRST] = chain.first().map_or(0, |&first| number(first));
+        cells[at + COUNT] = chain.len() as u32;
         for pair in chain.windows(2) {
-            cells[pair[0] + 6] = number(pair[1]);
+            cells[pair[0] + NEXT] = number(pair[1]);
         }
     }
 
@@ -151,6 +153,11 @@ impl Writer<'_> {
     }
 }
 
+/// The number of the cell that a word offset is in.
+fn number(at: usize) -> u32 {
+    (at / CELL_WIDTH + 1) as u32
+}
+
 /// Whether siblings fit a part: ranges of 16 bits, and no more records than end indices reach.
 fn packs(run: &[Node]) -> bool {
     let (first, last) = (&run[0], &run[run.len() - 1]);
@@ -173,16 +180,16 @@ pub fn damaged(rng: &mut Rng, tree: &Handed) -> Handed {
     let mut copy = tree.clone();
     let (cells, words) = (&mut copy.cells, &mut copy.words);
     let at = rng.below(cells.len());
-    let cell = at / 7 * 7;
+    let cell = at / CELL_WIDTH * CELL_WIDTH;
     match rng.below(26) {
         0 => drop(cells.remove(at)),
         1 => cells.insert(at, rng.next() as u32),
-        2 => drop(cells.drain(cell..cell + 7)),
+        2 => drop(cells.drain(cell..cell + CELL_WIDTH)),
         3 => {
-            let doubled = cells[cell..cell + 7].to_vec();
+            let doubled = cells[cell..cell + CELL_WIDTH].to_vec();
             cells.splice(cell..cell, doubled);
         }
-        4 => cells.truncate(cell + 7),
+        4 => cells.truncate(cell + CELL_WIDTH),
         5 => cells.extend([3, 0, 0, 0, 0, 0, 0]),
         6 => words.extend([0, 0, 0, (words.len() as u16).wrapping_add(4)]),
         7 => words.truncate(words.len().saturating_sub(rng.pick(&[1, 4]))),
@@ -205,19 +212,20 @@ pub fn with_packed_word_changed(rng: &mut Rng, tree: &Handed) -> Handed {
 fn boundary_word(rng: &mut Rng, tree: &Handed, at: usize) -> u32 {
     let (cells, types) = (&tree.cells, tree.types);
     let word = cells[at];
-    let count = (cells.len() / 7) as u32;
-    let other = cells[rng.below(cells.len() / 7) * 7 + at % 7];
+    let count = cells.len() / CELL_WIDTH;
+    let place = at % CELL_WIDTH;
+    let other = cells[rng.below(count) * CELL_WIDTH + place];
     let near = rng.pick(&[word.wrapping_add(1), word.wrapping_sub(1)]);
     let wild = rng.next() as u32;
     let far = rng.pick(&[0, u32::MAX, wild, word ^ 0x8000_0000]);
-    match at % 7 {
-        0 => rng.pick(&[0, 1, 2, 3, 1, 2, 3, 4, u32::MAX]),
-        1 => rng.pick(&[types, types.wrapping_sub(1), 1, 0, 65_535, other, far]),
-        2 | 3 => rng.pick(&[near, near, near, 0, other, far]),
-        5 => rng.pick(&[near, near, near, 0, other, far, word.wrapping_add(4)]),
+    match place {
+        KIND => rng.pick(&[0, 1, 2, 3, 1, 2, 3, 4, u32::MAX]),
+        ID => rng.pick(&[types, types.wrapping_sub(1), 1, 0, 65_535, other, far]),
+        POSITION | LENGTH => rng.pick(&[near, near, near, 0, other, far]),
+        COUNT => rng.pick(&[near, near, near, 0, other, far, word.wrapping_add(4)]),
         _ => {
-            let some = 1 + rng.below(count as usize + 1) as u32;
-            let own = (at / 7 + 1) as u32;
+            let some = 1 + rng.below(count + 1) as u32;
+            let own = number(at);
             rng.pick(&[near, near, 0, some, some, own, own + 1, other, far])
         }
     }
@@ -227,9 +235,9 @@ fn boundary_word(rng: &mut Rng, tree: &Handed, at: usize) -> u32 {
 fn boundary_packed(rng: &mut Rng, tree: &Handed, at: usize) -> u16 {
     let words = &tree.words;
     let word = words[at];
-    let other = words[rng.below(words.len() / 4) * 4 + at % 4];
+    let other = words[rng.below(words.len() / RECORD_WIDTH) * RECORD_WIDTH + at % RECORD_WIDTH];
     let near = rng.pick(&[word.wrapping_add(1), word.wrapping_sub(1)]);
-    match at % 4 {
+    match at % RECORD_WIDTH {
         0 => rng.pick(&[tree.types as u16, 0, 65_535, other]),
         1 | 2 => rng.pick(&[near, near, near, 0, 65_535, other]),
         _ => {

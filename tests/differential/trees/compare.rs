@@ -8,6 +8,7 @@ use crate::report::{Input, Outcome, Run, Tally, shortened};
 use crate::rezel::Panicked;
 use crate::trees::model::{self, Handed, Verdict};
 use crate::trees::rust_trees;
+use crate::widths::{CELL_WIDTH, KIND, LINE_WIDTH, RECORD_WIDTH};
 
 /// One call on a tree.
 struct Case<'a> {
@@ -49,7 +50,7 @@ impl Input for Case<'_> {
     fn describe(&self) -> String {
         let tree = self.tree;
         let (types, first, start) = (tree.types, tree.first_repeat, tree.start);
-        let cells: Vec<&[u32]> = tree.cells.chunks(7).collect();
+        let cells: Vec<&[u32]> = tree.cells.chunks(CELL_WIDTH).collect();
         let (cells, words) = (shortened(&cells), shortened(&tree.words));
         format!("T {types}, F {first}, S {start}, cells {cells}, words {words}")
     }
@@ -187,7 +188,7 @@ impl TreeSession {
         let (cells, words) = rust_trees::cells_of(&rust.materialize());
         assert!(words.is_empty(), "a part in a materialised tree");
         let mut expected = Expected::new(Call::Materialise, None, work_for(tree));
-        expected.counts = [cells.len() / 7, 0];
+        expected.counts = [cells.len() / CELL_WIDTH, 0];
         expected.written = cells;
         self.compare(tree, &expected);
         self.list(&Handed {
@@ -202,7 +203,7 @@ impl TreeSession {
         let (cells, words) = rust_trees::cells_of(&rust.balance());
         self.seen.balanced += u64::from(cells != tree.cells);
         let mut expected = Expected::new(Call::Balance, None, work_for(tree));
-        expected.counts = [cells.len() / 7, words.len()];
+        expected.counts = [cells.len() / CELL_WIDTH, words.len()];
         expected.written = cells;
         expected.packed = words;
         self.compare(tree, &expected);
@@ -222,8 +223,9 @@ impl TreeSession {
             };
             let lines = flatten::lines(&rust.materialize(), tree.first_repeat, tree.start);
             expected.written = rust_trees::narrow(&lines);
-            expected.counts = [lines.len() / 4, 0];
-            self.seen.lines += lines.len() as u64 / 4;
+            let count = lines.len() / LINE_WIDTH;
+            expected.counts = [count, 0];
+            self.seen.lines += count as u64;
         }
         self.compare(tree, &expected);
     }
@@ -243,12 +245,13 @@ impl TreeSession {
     }
 
     fn note(&mut self, tree: &Handed) {
-        let of_kind = |kind| tree.cells.chunks(7).filter(|cell| cell[0] == kind).count() as u64;
+        let cells = || tree.cells.chunks(CELL_WIDTH);
+        let of_kind = |kind| cells().filter(|cell| cell[KIND] == kind).count() as u64;
         self.seen.accepted += 1;
-        self.seen.cells += tree.cells.len() as u64 / 7;
+        self.seen.cells += cells().count() as u64;
         self.seen.parts += of_kind(2);
         self.seen.none += of_kind(3);
-        self.seen.records += tree.words.len() as u64 / 4;
+        self.seen.records += (tree.words.len() / RECORD_WIDTH) as u64;
     }
 
     /// One call on slices that are just large enough, larger, and too short.

@@ -4,6 +4,7 @@
 //! it and counts against the cell that holds it (docs/DECISIONS.md). Nothing here is shared with the library.
 
 use crate::parts::model;
+use crate::widths::{CELL_WIDTH, COUNT, FIRST, ID, KIND, LENGTH, NEXT, POSITION, RECORD_WIDTH};
 
 /// A tree as it is handed in, with the numbers that the calls take beside it.
 #[derive(Clone, Debug)]
@@ -41,7 +42,7 @@ pub fn accepted(counts: [usize; 2]) -> Verdict {
 
 /// The work slice that a tree of so many words of cells and so many packed words asks for.
 pub fn work_words(cells: usize, words: usize) -> usize {
-    96 * (cells / 7 + words / 4) + 96
+    96 * (cells / CELL_WIDTH + words / RECORD_WIDTH) + 96
 }
 
 /// 1, 11 and 15, in this order; none of them: nothing.
@@ -71,13 +72,13 @@ struct Cell {
 impl Cell {
     fn new(words: &[u32]) -> Self {
         Self {
-            kind: words[0].into(),
-            id: words[1].into(),
-            position: words[2].into(),
-            length: words[3].into(),
-            first: words[4].into(),
-            count: words[5].into(),
-            next: words[6].into(),
+            kind: words[KIND].into(),
+            id: words[ID].into(),
+            position: words[POSITION].into(),
+            length: words[LENGTH].into(),
+            first: words[FIRST].into(),
+            count: words[COUNT].into(),
+            next: words[NEXT].into(),
         }
     }
 
@@ -99,11 +100,11 @@ pub fn bad_cell(
     cells: &[u32],
     words: &[u16],
 ) -> Option<usize> {
-    if cells.is_empty() || cells.len() % 7 != 0 {
+    if cells.is_empty() || cells.len() % CELL_WIDTH != 0 {
         return Some(0);
     }
     let rules = Rules::new(types, start, parts, cells, words);
-    (1..=cells.len() / 7).find(|&cell| rules.breaks(cell))
+    (1..=cells.len() / CELL_WIDTH).find(|&cell| rules.breaks(cell))
 }
 
 struct Rules<'a> {
@@ -127,7 +128,7 @@ struct Rules<'a> {
 impl<'a> Rules<'a> {
     fn new(types: u32, start: u32, parts: bool, cells: &[u32], words: &'a [u16]) -> Self {
         let mut all = vec![Cell::default()];
-        all.extend(cells.chunks(7).map(Cell::new));
+        all.extend(cells.chunks(CELL_WIDTH).map(Cell::new));
         let count = all.len();
         let mut rules = Self {
             types,
@@ -291,9 +292,10 @@ impl<'a> Rules<'a> {
 
 /// "their records nest and order by range as in 10 and end within the part's length", for a part that passes 16 to 20.
 fn records_stray(words: &[u16], length: u64) -> bool {
-    let records = words.len() / 4;
-    let word = |record: usize, at: usize| u64::from(words[record * 4 + at]);
-    let parent = |record: usize| (0..record).rfind(|&earlier| word(earlier, 3) > record as u64 * 4);
+    let records = words.len() / RECORD_WIDTH;
+    let word = |record: usize, at: usize| u64::from(words[record * RECORD_WIDTH + at]);
+    let offset = |record: usize| (record * RECORD_WIDTH) as u64;
+    let parent = |record: usize| (0..record).rfind(|&earlier| word(earlier, 3) > offset(record));
     let parents: Vec<Option<usize>> = (0..records).map(parent).collect();
     let mut latest = vec![None; records + 1];
     for record in 0..records {

@@ -6,6 +6,7 @@ use crate::TextSize;
 use crate::flatten::{Flat, flatten};
 use crate::tree::{NodeSet, NodeType, Tree, TreeBuffer, TreeChild};
 use crate::trees::model::Handed;
+use crate::widths::{CELL_WIDTH, COUNT, FIRST, ID, KIND, LENGTH, NEXT, POSITION};
 
 /// The tree that cells and words stand for, where they keep the cell rules.
 pub fn tree_of(tree: &Handed, set: &Arc<NodeSet>) -> Tree {
@@ -19,34 +20,35 @@ struct Reader<'a> {
 
 impl Reader<'_> {
     fn cell(&self, number: usize) -> &[u32] {
-        &self.tree.cells[number * 7 - 7..number * 7]
+        let end = number * CELL_WIDTH;
+        &self.tree.cells[end - CELL_WIDTH..end]
     }
 
     fn tree(&self, number: usize) -> Tree {
         let cell = self.cell(number);
-        let kind = match cell[0] {
+        let kind = match cell[KIND] {
             3 => NodeType::none(),
-            _ => self.set.types()[cell[1] as usize].clone(),
+            _ => self.set.types()[cell[ID] as usize].clone(),
         };
         let mut children = Vec::new();
         let mut positions = Vec::new();
-        let mut child = cell[4] as usize;
+        let mut child = cell[FIRST] as usize;
         while child != 0 {
             children.push(self.child(child));
-            positions.push(TextSize::new(self.cell(child)[2]));
-            child = self.cell(child)[6] as usize;
+            positions.push(TextSize::new(self.cell(child)[POSITION]));
+            child = self.cell(child)[NEXT] as usize;
         }
-        Tree::new(kind, children, positions, TextSize::new(cell[3]))
+        Tree::new(kind, children, positions, TextSize::new(cell[LENGTH]))
     }
 
     fn child(&self, number: usize) -> TreeChild {
         let cell = self.cell(number);
-        if cell[0] != 2 {
+        if cell[KIND] != 2 {
             return TreeChild::Tree(self.tree(number));
         }
-        let (from, count) = (cell[4] as usize, cell[5] as usize);
+        let (from, count) = (cell[FIRST] as usize, cell[COUNT] as usize);
         let words = self.tree.words[from..from + count].to_vec();
-        let length = TextSize::new(cell[3]);
+        let length = TextSize::new(cell[LENGTH]);
         TreeChild::Buffer(TreeBuffer::new(words, length, Arc::clone(self.set)))
     }
 }

@@ -13,11 +13,12 @@ use crate::tree::NodeSet;
 use crate::trees::compare::Call;
 use crate::trees::model::{self, Handed};
 use crate::trees::{cases, rust_trees};
+use crate::widths::{CELL_WIDTH, KIND, LINE_WIDTH, RECORD_WIDTH};
 use crate::{Tree, flatten, trees};
 
 /// The largest trees that are taken: words of cells, before and after, and packed words.
-const MOST_CELLS: usize = 210;
-const MOST_WORDS: usize = 120;
+const MOST_CELLS: usize = 30 * CELL_WIDTH;
+const MOST_WORDS: usize = 30 * RECORD_WIDTH;
 
 pub struct Sample {
     oracle: Oracle,
@@ -49,9 +50,12 @@ impl Answer {
     fn counted(&self, call: Call) -> String {
         let Self { written, words } = self;
         match call {
-            Call::Materialise => format!("cells {}", written.len() / 7),
-            Call::List => format!("lines {}", written.len() / 4),
-            Call::Balance => format!("cells {} words {}", written.len() / 7, words.len()),
+            Call::Materialise => format!("cells {}", written.len() / CELL_WIDTH),
+            Call::List => format!("lines {}", written.len() / LINE_WIDTH),
+            Call::Balance => {
+                let cells = written.len() / CELL_WIDTH;
+                format!("cells {cells} words {}", words.len())
+            }
         }
     }
 }
@@ -209,7 +213,8 @@ fn kind(call: Call, tree: &Handed, number: u32, changed: bool) -> String {
     if number != 0 {
         return format!("{name} refused with {number}");
     }
-    let of_kind = |kind| tree.cells.chunks(7).filter(|cell| cell[0] == kind).count();
+    let cells = || tree.cells.chunks(CELL_WIDTH);
+    let of_kind = |kind| cells().filter(|cell| cell[KIND] == kind).count();
     let (parts, none) = (of_kind(2).min(3), of_kind(3).min(3));
     let how = if changed { " that change" } else { "" };
     format!("{name}, {parts} parts, {none} trees of kind 3{how}")

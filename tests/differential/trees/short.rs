@@ -3,9 +3,10 @@
 use crate::spelling;
 use crate::trees::compare::TreeSession;
 use crate::trees::model::Handed;
+use crate::widths::CELL_WIDTH;
 
-/// What each of the seven words of a cell is made of.
-type Alphabet = [&'static [u32]; 7];
+/// What each word of a cell is made of.
+type Alphabet = [&'static [u32]; CELL_WIDTH];
 
 const ONE: Alphabet = [
     &[0, 1, 2, 3, 4],
@@ -54,7 +55,7 @@ const RANGED: [&[u32]; 3] = [&[0, 1, 2], &[0, 1, 2, u32::MAX], &[0, 1, 2, u32::M
 pub fn run(session: &mut TreeSession) {
     for types in [0, 1, 2, 65_536, 65_537, u32::MAX] {
         check(session, types, &[], &[]);
-        for length in 1..=20 {
+        for length in 1..3 * CELL_WIDTH {
             check(session, types, &vec![1; length], &[]);
         }
         for words in [&[][..], &[0], &[0, 0, 0, 4], &[0, 0, 1, 4]] {
