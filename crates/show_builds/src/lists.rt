@@ -1,10 +1,19 @@
 // The long lists and the trees that the examples ask for, and room for what they make.
 ghost use mathlib.Core.Path.{_≡_};
 ghost use lib.ListN.{length};
+use tree::CELL_WIDTH;
+use tree::COUNT;
+use tree::FIRST;
+use tree::ID;
+use tree::KIND;
+use tree::LENGTH;
+use tree::NEXT;
+use tree::POSITION;
+use words::RECORD_WIDTH;
 
 // Word i of a list of empty siblings: each record is 1, 0, 0, 4.
 fn sibling_word(i: usize) -> u32 {
-    match i % 4 {
+    match i % RECORD_WIDTH {
         0 => 1,
         3 => 4,
         _ => 0,
@@ -13,7 +22,7 @@ fn sibling_word(i: usize) -> u32 {
 
 // Word i of a chain of records from 0 to an end, each in the next one.
 fn chain_word(i: usize, end: u32) -> u32 {
-    match i % 4 {
+    match i % RECORD_WIDTH {
         0 => 1,
         1 => 0,
         2 => end,
@@ -73,8 +82,8 @@ pub fn line_room() -> [u32; 10016]
 
 // The number in the next word of a chain of leaves: the cell behind cell i, or 0.
 fn next_of(i: usize, size: usize) -> u32 {
-    if i / 7 + 1 < size / 7 {
-        return (i % 65536) as u32 / 7 + 2;
+    if i / CELL_WIDTH + 1 < size / CELL_WIDTH {
+        return (i % 65536 / CELL_WIDTH) as u32 + 2;
     }
     0
 }
@@ -82,28 +91,28 @@ fn next_of(i: usize, size: usize) -> u32 {
 // Word i of a top of id 0, whose cells have so many words in all: the count of its children is that of the other cells.
 fn top_word(i: usize, size: usize) -> u32 {
     match i {
-        0 => 1,
-        3 => (size / 7 % 65536) as u32,
-        4 => 2,
-        5 => ((size / 7 + 65535) % 65536) as u32,
+        KIND => 1,
+        LENGTH => (size / CELL_WIDTH % 65536) as u32,
+        FIRST => 2,
+        COUNT => ((size / CELL_WIDTH + 65535) % 65536) as u32,
         _ => 0,
     }
 }
 
 // Word i of the leaves below it, each of id 1 and length 1.
 fn leaf_word(i: usize, size: usize) -> u32 {
-    match i % 7 {
-        0 => 1,
-        1 => 1,
-        2 => (i % 65536) as u32 / 7,
-        3 => 1,
-        6 => next_of(i, size),
+    match i % CELL_WIDTH {
+        KIND => 1,
+        ID => 1,
+        POSITION => (i % 65536 / CELL_WIDTH) as u32,
+        LENGTH => 1,
+        NEXT => next_of(i, size),
         _ => 0,
     }
 }
 
 fn cell_word(i: usize, size: usize) -> u32 {
-    if i < 7 {
+    if i < CELL_WIDTH {
         return top_word(i, size);
     }
     leaf_word(i, size)

@@ -8,11 +8,35 @@ use build::Built;
 use build::Given;
 use listing::Listed;
 use materialize::Materialized;
+use tree::CELL_WIDTH;
+use tree::COUNT;
+use tree::LINE_WIDTH;
+use words::RECORD_WIDTH;
 
 // What the lent slices hold before a call.
 const BEFORE: u32 = 9;
 
 const PACKED_BEFORE: u16 = 9;
+
+// Room for what a small list makes: six cells, five packed records and five lines.
+const CELL_ROOM: usize = 6 * CELL_WIDTH;
+
+const PACKED_ROOM: usize = 5 * RECORD_WIDTH;
+
+const LINE_ROOM: usize = 5 * LINE_WIDTH;
+
+// The words of so many cells, and one less than those of two.
+const TWO: usize = 2 * CELL_WIDTH;
+
+const SHORT_OF_TWO: usize = TWO - 1;
+
+const THREE: usize = 3 * CELL_WIDTH;
+
+const ELEVEN: usize = 11 * CELL_WIDTH;
+
+const TWELVE: usize = 12 * CELL_WIDTH;
+
+const TWENTY: usize = 20 * CELL_WIDTH;
 
 // The numbers that a list is read with: T, F, b and S.
 struct Numbers {
@@ -164,18 +188,22 @@ fn show_list(
     listed: usize,
     work: &mut [u32],
 ) {
-    let mut cells = [BEFORE; 42];
-    let mut words = [PACKED_BEFORE; 20];
-    let mut out = [BEFORE; 42];
-    let mut lines = [BEFORE; 20];
+    let mut cells = [BEFORE; CELL_ROOM];
+    let mut words = [PACKED_BEFORE; PACKED_ROOM];
+    let mut out = [BEFORE; CELL_ROOM];
+    let mut lines = [BEFORE; LINE_ROOM];
     show::print(what);
     let answer = build_list(numbers, records, work, &mut cells, &mut words);
     expect_counts(answer, count, packed);
-    show::print_words(&cells, show::cell_words(answer.cells, 42), 7);
+    show::print_words(
+        &cells,
+        show::cell_words(answer.cells, CELL_ROOM),
+        CELL_WIDTH,
+    );
     show::print_packed(&words, answer.words);
     let came = list_built(numbers, answer, &cells, &words, work, &mut out, &mut lines);
     show::expect_lines(came, listed);
-    show::print_words(&lines, show::line_words(came, 20), 4);
+    show::print_words(&lines, show::line_words(came, LINE_ROOM), LINE_WIDTH);
 }
 
 // T 4, F 4 and S 0, with a length bound.
@@ -237,7 +265,7 @@ fn show_short(work: &mut [u32], cells: &mut [u32], words: &mut [u16], number: u3
 
 fn short_work() {
     let mut work = [BEFORE; 383];
-    let mut cells = [BEFORE; 14];
+    let mut cells = [BEFORE; TWO];
     let mut words = [PACKED_BEFORE; 12];
     show::print(b"P, b 1024, a work slice of 383 words");
     show_short(&mut work, &mut cells, &mut words, 11);
@@ -245,7 +273,7 @@ fn short_work() {
 
 fn short_cells() {
     let mut work = [BEFORE; 384];
-    let mut cells = [BEFORE; 13];
+    let mut cells = [BEFORE; SHORT_OF_TWO];
     let mut words = [PACKED_BEFORE; 12];
     show::print(b"P, b 1024, room for 13 words of cells");
     show_short(&mut work, &mut cells, &mut words, 12);
@@ -253,7 +281,7 @@ fn short_cells() {
 
 fn short_words() {
     let mut work = [BEFORE; 384];
-    let mut cells = [BEFORE; 14];
+    let mut cells = [BEFORE; TWO];
     let mut words = [PACKED_BEFORE; 11];
     show::print(b"P, b 1024, room for 11 packed words");
     show_short(&mut work, &mut cells, &mut words, 13);
@@ -262,7 +290,7 @@ fn short_words() {
 // A record before the build start.
 fn early(work: &mut [u32]) {
     let one: [u32; 4] = [1, 5, 7, 4];
-    let mut cells = [BEFORE; 14];
+    let mut cells = [BEFORE; TWO];
     let mut words = [PACKED_BEFORE; 12];
     show::print(b"Record 1 5 7 4, S 6");
     let answer = build_list(starting(6), &one, work, &mut cells, &mut words);
@@ -273,7 +301,7 @@ fn early(work: &mut [u32]) {
 fn enough() {
     let p: [u32; 12] = [1, 0, 2, 4, 2, 3, 5, 4, 3, 0, 6, 12];
     let mut work = [BEFORE; 384];
-    let mut cells = [BEFORE; 14];
+    let mut cells = [BEFORE; TWO];
     let mut words = [PACKED_BEFORE; 12];
     show::print(b"P, b 1024, 384 words of work, 14 of cells, 12 packed");
     let answer = build_list(plain(1024), &p, &mut work, &mut cells, &mut words);
@@ -289,15 +317,15 @@ fn show_siblings(
     work: &mut [u32],
     words: &mut [u16],
 ) {
-    let mut cells = [0u32; 21];
-    show::print_number((size / 4) as u64);
+    let mut cells = [0u32; THREE];
+    show::print_number((size / RECORD_WIDTH) as u64);
     show::print(b" empty siblings, b 1024");
     let answer = build_front(plain(1024), records, size, work, &mut cells, words);
     expect_counts(answer, count, 65532);
     show::print(b"kinds ");
-    show::expect(show::wide(show::word_at(&cells, 7)), 2);
+    show::expect(show::wide(show::word_at(&cells, CELL_WIDTH)), 2);
     show::print(b" ");
-    show::expect(show::wide(show::word_at(&cells, 14)), show::wide(third));
+    show::expect(show::wide(show::word_at(&cells, TWO)), show::wide(third));
     show::print(b"\n");
 }
 
@@ -312,7 +340,10 @@ fn siblings(work: &mut [u32]) {
 // The kind of the last of 2,504 cells.
 fn expect_last(cells: &[u32], kind: u32) {
     show::print(b"the last cell's kind ");
-    show::expect(show::wide(show::word_at(cells, 17521)), show::wide(kind));
+    show::expect(
+        show::wide(show::word_at(cells, 2503 * CELL_WIDTH)),
+        show::wide(kind),
+    );
     show::print(b", ");
 }
 
@@ -342,7 +373,7 @@ fn chain(size: usize, end: u32, packed: usize, kind: u32, work: &mut [u32]) {
     let mut out = lists::cell_room();
     let mut lines = lists::line_room();
     show::print(b"A chain of ");
-    show::print_number((size / 4) as u64);
+    show::print_number((size / RECORD_WIDTH) as u64);
     show::print(b" records from 0 to ");
     show::print_number(show::wide(end));
     show::print(b", b 1024");
@@ -370,9 +401,9 @@ fn expect_balance(answer: Balanced, out: &[u32], children: u32) {
     match answer {
         Balanced::Cells(count, _) => {
             show::print(b": children ");
-            show::expect(show::wide(show::word_at(out, 5)), show::wide(children));
+            show::expect(show::wide(show::word_at(out, COUNT)), show::wide(children));
             show::print(b"\n");
-            show::print_words(out, show::cell_words(count, out.len()), 7);
+            show::print_words(out, show::cell_words(count, out.len()), CELL_WIDTH);
         }
         Balanced::Refused(number, _) => {
             show::print(b": WRONG, refused ");
@@ -386,17 +417,17 @@ fn expect_balance(answer: Balanced, out: &[u32], children: u32) {
 fn show_balance(cells: &mut [u32], children: u32, work: &mut [u32]) {
     let none: [u16; 0] = [];
     let mut packed = [0u16; 1];
-    let mut out = [BEFORE; 140];
+    let mut out = [BEFORE; TWENTY];
     lists::put_leaves(cells);
-    show::print_number(show::wide(show::word_at(cells, 5)));
+    show::print_number(show::wide(show::word_at(cells, COUNT)));
     show::print(b" leaf trees balanced");
     let answer = balance::balance(4, cells, &none, work, &mut out, &mut packed);
     expect_balance(answer, &out, children);
 }
 
 fn balances(work: &mut [u32]) {
-    let mut ten = [0u32; 77];
-    let mut eleven = [0u32; 84];
+    let mut ten = [0u32; ELEVEN];
+    let mut eleven = [0u32; TWELVE];
     show_balance(&mut ten, 10, work);
     show_balance(&mut eleven, 6, work);
 }

@@ -1,5 +1,8 @@
 // What is printed: numbers that came beside those that are due, and words in rows.
 ghost use Prim.Native.Nat.{_≤_};
+use tree::CELL_WIDTH;
+use tree::LINE_WIDTH;
+use words::RECORD_WIDTH;
 
 pub fn print(text: &[u8]) {
     io::write_all(libc::STDOUT_FILENO, text);
@@ -55,7 +58,7 @@ pub fn print_packed(words: &[u16], count: usize) {
         }
         print(b" ");
         print_number(words::wide64(words[i]));
-        if ends_row(i, 4) {
+        if ends_row(i, RECORD_WIDTH) {
             print(b"\n");
         }
         i += 1;
@@ -66,10 +69,10 @@ pub fn print_packed(words: &[u16], count: usize) {
 pub fn cell_words(count: usize, room: usize) -> usize
     ensures { λ r. ⌜ r ≤ room ⌝ }
 {
-    if room / 7 < count {
+    if room / CELL_WIDTH < count {
         return room;
     }
-    count * 7
+    count * CELL_WIDTH
 }
 
 // So many words, or the whole room where it has fewer.
@@ -84,10 +87,10 @@ pub fn within(count: usize, room: usize) -> usize
 
 // How many words so many lines have, or the whole room.
 pub fn line_words(count: usize, room: usize) -> usize {
-    if room / 4 < count {
+    if room / LINE_WIDTH < count {
         return room;
     }
-    count * 4
+    count * LINE_WIDTH
 }
 
 // The word at a place; 0 behind the last one.

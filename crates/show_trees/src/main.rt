@@ -2,9 +2,21 @@
 // of a listing is depth, id, start and end.
 use listing::Listed;
 use materialize::Materialized;
+use tree::CELL_WIDTH;
+use tree::LINE_WIDTH;
 
 // How many types of records there are, and the first repeat id.
 const TYPES: u32 = 4;
+
+// The words of so many cells, and of the lines of P.
+const FOUR: usize = 4 * CELL_WIDTH;
+
+const THREE: usize = 3 * CELL_WIDTH;
+
+const LINES: usize = 3 * LINE_WIDTH;
+
+// The place of a line's last word.
+const LAST: usize = LINE_WIDTH - 1;
 
 fn print(text: &[u8]) {
     io::write_all(libc::STDOUT_FILENO, text);
@@ -26,12 +38,12 @@ fn wide(word: u32) -> u64 {
     word as u64
 }
 
-// The words of some lines, four to a line.
+// The words of some lines, each on a line of its own.
 fn print_lines(words: &[u32]) {
     let mut i: usize = 0;
     while i < words.len() {
         print_number(b" ", wide(words[i]));
-        if i % 4 == 3 {
+        if i % LINE_WIDTH == LAST {
             print(b"\n");
         }
         i += 1;
@@ -54,7 +66,7 @@ fn show_list(cells: &[u32], start: u32, work: &mut [u32], lines: &mut [u32]) {
 // Materialises a tree into cells, and lists them: the trees here fill the slice that is lent for their cells.
 fn show(cells: &[u32], words: &[u16], start: u32, out: &mut [u32]) {
     let mut work = [9u32; 1152];
-    let mut lines = [9u32; 12];
+    let mut lines = [9u32; LINES];
     let answer = materialize::materialize(TYPES, cells, words, &mut work, out);
     match answer {
         Materialized::Cells(count) => {
@@ -70,8 +82,8 @@ fn main() {
     let packed: [u16; 12] = [3, 0, 6, 12, 1, 0, 2, 8, 2, 3, 5, 12];
     let inner: [u16; 8] = [1, 0, 2, 4, 2, 3, 5, 8];
     let none: [u16; 0] = [];
-    let mut out = [9u32; 28];
-    let mut short = [9u32; 21];
+    let mut out = [9u32; FOUR];
+    let mut short = [9u32; THREE];
     print(b"P with b 1,024\n");
     show(
         &[1, 0, 0, 6, 2, 1, 0, 2, 0, 0, 6, 0, 12, 0],
