@@ -67,7 +67,10 @@ fn first_group(work: &[u32], node: u32, k: u32, kind: u32, id: u32, m: u32) -> F
 {
     let mut count: u32 = 1;
     let mut size = balanced_node_size(work, node, kind, id);
-    let mut end = store::sum(word_at(work, node, NODE_START), word_at(work, node, NODE_LENGTH));
+    let mut end = store::sum(
+        word_at(work, node, NODE_START),
+        word_at(work, node, NODE_LENGTH),
+    );
     let mut next = word_at(work, node, NODE_NEXT);
     while count < k {
         let grown = store::sum(size, balanced_node_size(work, next, kind, id));
@@ -80,7 +83,10 @@ fn first_group(work: &[u32], node: u32, k: u32, kind: u32, id: u32, m: u32) -> F
             };
         }
         size = grown;
-        end = store::sum(word_at(work, next, NODE_START), word_at(work, next, NODE_LENGTH));
+        end = store::sum(
+            word_at(work, next, NODE_START),
+            word_at(work, next, NODE_LENGTH),
+        );
         next = word_at(work, next, NODE_NEXT);
         count += 1;
     }

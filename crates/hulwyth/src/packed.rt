@@ -92,7 +92,16 @@ fn print_part(
     let mut held: usize = 0;
     let mut i: usize = 0;
     while i < count {
-        held = print_under(page, names, part, i * RECORD_WIDTH, start, depth, ends, held);
+        held = print_under(
+            page,
+            names,
+            part,
+            i * RECORD_WIDTH,
+            start,
+            depth,
+            ends,
+            held,
+        );
         i += 1;
     }
 }

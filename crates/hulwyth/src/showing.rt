@@ -187,7 +187,15 @@ fn show_tree(
     requires { ⌜ length (now cells) ≤ length (now work) ⌝ }
     requires { ⌜ length (now words) ≤ 16384 ⌝ }
 {
-    show_outline(page, names, numbers, records.len() / RECORD_WIDTH, cells, words, work);
+    show_outline(
+        page,
+        names,
+        numbers,
+        records.len() / RECORD_WIDTH,
+        cells,
+        words,
+        work,
+    );
     show_cells(page, options, cells);
     show_words(page, options, words);
     show_tree_list(page, names, numbers, records, cells, words, work);

@@ -59,7 +59,10 @@ pub fn print_words(page: &mut [u8], words: &[u16]) {
     while i < count {
         put_number(page, b" ", (i * RECORD_WIDTH) as u64);
         put(page, b":");
-        print_packed(page, &words[i * RECORD_WIDTH..i * RECORD_WIDTH + RECORD_WIDTH]);
+        print_packed(
+            page,
+            &words[i * RECORD_WIDTH..i * RECORD_WIDTH + RECORD_WIDTH],
+        );
         i += 1;
     }
 }

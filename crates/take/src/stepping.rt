@@ -58,7 +58,10 @@ fn close_tree(records: &[u32], work: &mut [u32], s: State) -> State
     ensures { λ r. ⌜ Closed (now (records .entry)) (now (work .entry)) (now (work .exit)) s r ⌝ }
 {
     let depth = s.depth - 1;
-    let f = pop_frame(&*work, records.len() / RECORD_WIDTH + 1 + FRAME_WIDTH * depth);
+    let f = pop_frame(
+        &*work,
+        records.len() / RECORD_WIDTH + 1 + FRAME_WIDTH * depth,
+    );
     let tree = s.tree;
     let g = s.children;
     let made = gathering::finish_node(work, s.low, tree.id, tree.start, tree.end, g, f.loose);
@@ -88,7 +91,13 @@ fn open_tree(records: &[u32], work: &mut [u32], s: State, node: Node, memo: scan
     let last = records::back(s.p);
     let tree = s.tree;
     let g = s.children;
-    push_frame(work, records.len() / RECORD_WIDTH + 1 + FRAME_WIDTH * s.depth, tree, g, memo);
+    push_frame(
+        work,
+        records.len() / RECORD_WIDTH + 1 + FRAME_WIDTH * s.depth,
+        tree,
+        g,
+        memo,
+    );
     let children = gathering::Gathering {
         top: g.top,
         groups: 0,
