@@ -8,6 +8,7 @@ use native.Mathlib.Omega.{arith}
 use borrow.Author.Tests.{ltb-false, ltb-true}
 use lib.Dec.{ltb}
 use lib.ListN.{length, getD}
+use Rattle.tree.specs.Cells.{cell-width}
 use Rattle.words.specs.Outcome.{refused, Result}
 use Rattle.tree.specs.Balance.{balanced}
 use Rattle.tree.specs.Calls.{written, balance-cells}
@@ -16,7 +17,7 @@ use Rattle.rules.specs.Calls.{items, most-items, handed-in, balance-call}
 use Rattle.rules.proofs.CallLaws.{types-refused, work-refused, cell-refused, balance-refused, balance-many, balance-settles}
 use Rattle.balance.specs.Steps.{settled-tree, Lent}
 
-pub items-are : (cs ws : List ℕ) → items cs ws ≡ length cs / 7 + length ws / 4
+pub items-are : (cs ws : List ℕ) → items cs ws ≡ length cs / cell-width + length ws / 4
 unfolding items
 items-are cs ws = refl
 
@@ -36,10 +37,10 @@ module _ (T : ℕ) (cs ws : List ℕ) (work : ℕ) (out words : List ℕ) where
       refuses-cell c h = sym (balance-refused T cs ws work out 15 c words (λ o. cell-refused T 0 true cs ws work o types lent c h))
 
       module _ (ok : bad-cell T 0 true cs ws ≡ none) where
-        pub refuses-many : most-items < length cs / 7 + length ws / 4 → record { outcome = refused 12 0; outputs = out ∷ words ∷ [] } ≡ balance-call T cs ws work out words
+        pub refuses-many : most-items < length cs / cell-width + length ws / 4 → record { outcome = refused 12 0; outputs = out ∷ words ∷ [] } ≡ balance-call T cs ws work out words
         refuses-many h = sym (balance-many T types cs ws work out words ok lent (omega (arith, items-are cs ws)))
 
-        module _ (few : length cs / 7 + length ws / 4 ≤ most-items) where
+        module _ (few : length cs / cell-width + length ws / 4 ≤ most-items) where
           most : items cs ws ≤ most-items
           most = omega (arith, items-are cs ws)
 

@@ -8,7 +8,7 @@ use Prim.Native.Nat.{ℕ, suc, _+_, _*_, _≤_, _<_}
 use native.Mathlib.Omega.{arith}
 use lib.ListN.{length, getD}
 use Rattle.tree.specs.Trees.{Trees, nil, tree, part, nodes}
-use Rattle.tree.specs.Cells.{packed, cells, relative}
+use Rattle.tree.specs.Cells.{packed, cells, relative, cell-width}
 use Rattle.tree.proofs.WellLaws.{well-≤}
 use Rattle.tree.proofs.CellLaws.{length-cells}
 use Rattle.tree.proofs.KeptLaws.{Kept, kept-read}
@@ -54,7 +54,7 @@ pub record Handed (cs ws : List ℕ) (n : ℕ) : Type 0 where
   pub kids : Trees
   pub tree-is : handed-in cs ws ≡ tree (some top) 0 len kids nil
   pub count : n ≡ suc (nodes kids)
-  pub size : n * 7 ≡ length cs
+  pub size : n * cell-width ≡ length cs
   pub words-are : packed (handed-in cs ws) ≡ ws
   pub ends : Ends kids
   pub site : (k : ℕ) → k < n → Site cs ws (bases 0 (handed-in cs ws)) (onwards (handed-in cs ws)) n k
@@ -78,9 +78,9 @@ module _ (cs ws : List ℕ) (n : ℕ) (g : Given cs ws n) where
   unfolding packed
   whole-words = append-nil (packed (kept .kids)) ∙ sym (kept .words-are)
 
-  length-whole : length cs ≡ 7 * suc (nodes (kept .kids))
+  length-whole : length cs ≡ cell-width * suc (nodes (kept .kids))
   length-whole =
-      ap length (kept .cells-are) ∙ length-cells 1 0 (relative 0 whole) ∙ ap (λ (k : ℕ). 7 * k) (relative-nodes 0 whole ∙ whole-nodes)
+      ap length (kept .cells-are) ∙ length-cells 1 0 (relative 0 whole) ∙ ap (λ (k : ℕ). cell-width * k) (relative-nodes 0 whole ∙ whole-nodes)
 
   n-is : n ≡ suc (nodes (kept .kids))
   n-is = omega (arith, g .whole, length-whole)

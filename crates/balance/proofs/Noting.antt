@@ -3,12 +3,13 @@
 use mathlib.Core.Path.{_≡_, refl, sym, ap, _∙_}
 use mathlib.Core.List.{List}
 use mathlib.Core.Logic.{inl, inr, ⊎-elim}
-use Prim.Native.Nat.{ℕ, zero, suc, _+_, _-_, _*_, _≤_, _<_}
+use Prim.Native.Nat.{ℕ, zero, suc, _+_, _-_, _≤_, _<_}
 use native.Mathlib.Omega.{arith}
 use native.Mathlib.Decide.{ℕ-discrete, decLt}
 use borrow.Author.Tests.{eq-eqb, ne-eqb}
 use lib.ListN.{length, getD, set, length-set}
 use lib.Seq.{getD-set-same, getD-set-other}
+use Rattle.tree.specs.Cells.{cell-kind, cell-position, cell-first, cell-next}
 use Rattle.tree.specs.Trees.{Trees}
 use Rattle.store.specs.Store.{Same}
 use Rattle.store.proofs.Unique.{not-part}
@@ -36,23 +37,23 @@ noted-behind held (suc x) q n j a b =
     ap (λ (l : List ℕ). getD l j 0) (noted-some held (suc x) q (λ e. omega arith)) ∙ getD-set-other held (suc x - 1) j q 0 (λ e. omega arith)
 
 -- what a part's cell notes, and what a tree's does
-links-part : (cs held : List ℕ) (i : ℕ) → getD cs (i * 7) 0 ≡ 2 → links-noted cs held i ≡ noted held (getD cs (i * 7 + 6) 0) (getD held i 0)
+links-part : (cs held : List ℕ) (i : ℕ) → cell-kind cs i ≡ 2 → links-noted cs held i ≡ noted held (cell-next cs i) (getD held i 0)
 unfolding links-noted
-links-part cs held i e = rw (eq-eqb (getD cs (i * 7) 0) 2 e)
+links-part cs held i e = rw (eq-eqb (cell-kind cs i) 2 e)
 
-links-tree : (cs held : List ℕ) (i : ℕ) → (getD cs (i * 7) 0 ≡ 2 → ⊥)
-    → links-noted cs held i ≡ noted (noted held (getD cs (i * 7 + 6) 0) (getD held i 0)) (getD cs (i * 7 + 4) 0) (getD held i 0 + getD cs (i * 7 + 2) 0)
+links-tree : (cs held : List ℕ) (i : ℕ) → (cell-kind cs i ≡ 2 → ⊥)
+    → links-noted cs held i ≡ noted (noted held (cell-next cs i) (getD held i 0)) (cell-first cs i) (getD held i 0 + cell-position cs i)
 unfolding links-noted
-links-tree cs held i e = rw (ne-eqb (getD cs (i * 7) 0) 2 e)
+links-tree cs held i e = rw (ne-eqb (cell-kind cs i) 2 e)
 
 -- the words after a cell has noted what it names
-pub links-part-done : (cs held held′ : List ℕ) (i : ℕ) → getD cs (i * 7) 0 ≡ 2 → held′ ≡ noted held (getD cs (i * 7 + 6) 0) (getD held i 0) → held′ ≡ links-noted cs held i
+pub links-part-done : (cs held held′ : List ℕ) (i : ℕ) → cell-kind cs i ≡ 2 → held′ ≡ noted held (cell-next cs i) (getD held i 0) → held′ ≡ links-noted cs held i
 links-part-done cs held held′ i two e = e ∙ sym (links-part cs held i two)
 
-pub links-tree-done : (cs held held₁ held₂ : List ℕ) (i : ℕ) → (getD cs (i * 7) 0 ≡ 2 → ⊥) → held₁ ≡ noted held (getD cs (i * 7 + 6) 0) (getD held i 0)
-    → held₂ ≡ noted held₁ (getD cs (i * 7 + 4) 0) (getD held i 0 + getD cs (i * 7 + 2) 0) → held₂ ≡ links-noted cs held i
+pub links-tree-done : (cs held held₁ held₂ : List ℕ) (i : ℕ) → (cell-kind cs i ≡ 2 → ⊥) → held₁ ≡ noted held (cell-next cs i) (getD held i 0)
+    → held₂ ≡ noted held₁ (cell-first cs i) (getD held i 0 + cell-position cs i) → held₂ ≡ links-noted cs held i
 links-tree-done cs held held₁ held₂ i other e f =
-    f ∙ ap (λ (l : List ℕ). noted l (getD cs (i * 7 + 4) 0) (getD held i 0 + getD cs (i * 7 + 2) 0)) e ∙ sym (links-tree cs held i other)
+    f ∙ ap (λ (l : List ℕ). noted l (cell-first cs i) (getD held i 0 + cell-position cs i)) e ∙ sym (links-tree cs held i other)
 
 -- a number v that is right for the cell x, by the list bs
 module _ (bs : List ℕ) where
@@ -137,8 +138,8 @@ module _ (cs ws : List ℕ) (n : ℕ) (g : Given cs ws n) where
           tree-ready t = record {
             inside = omega (arith, h .size);
             own = omega (arith, s .size, s .room);
-            next-fits = omega (arith, s .size, s .room, leads-in i (getD bs i 0) (t .rest) (getD cs (i * 7 + 6) 0) (t .next-is));
-            first-fits = λ e. omega (arith, s .size, s .room, leads-in i (t .start) (t .kids) (getD cs (i * 7 + 4) 0) (t .first-is));
+            next-fits = omega (arith, s .size, s .room, leads-in i (getD bs i 0) (t .rest) (cell-next cs i) (t .next-is));
+            first-fits = λ e. omega (arith, s .size, s .room, leads-in i (t .start) (t .kids) (cell-first cs i) (t .first-is));
             start-fits = omega (arith, own-base, t .start-is, t .small);
           }
 
@@ -146,13 +147,13 @@ module _ (cs ws : List ℕ) (n : ℕ) (g : Given cs ws n) where
           part-ready t = record {
             inside = omega (arith, h .size);
             own = omega (arith, s .size, s .room);
-            next-fits = omega (arith, s .size, s .room, leads-in i (getD bs i 0) (t .rest) (getD cs (i * 7 + 6) 0) (t .next-is));
+            next-fits = omega (arith, s .size, s .room, leads-in i (getD bs i 0) (t .rest) (cell-next cs i) (t .next-is));
             first-fits = λ e. absurd (e (t .kind-is));
             start-fits = omega (arith, own-base, t .start-is, t .small);
           }
 
       abbrev x : ℕ
-      x = getD cs (i * 7 + 6) 0
+      x = cell-next cs i
 
       abbrev v : ℕ
       v = getD held i 0
@@ -165,7 +166,7 @@ module _ (cs ws : List ℕ) (n : ℕ) (g : Given cs ws n) where
         once-at k m e = noted-right bs held x v next-right k (omega (arith, s .size, s .room)) e
 
         -- a part notes its next
-        part-next : getD cs (i * 7) 0 ≡ 2 → Noting held₀ once (i + 1)
+        part-next : cell-kind cs i ≡ 2 → Noting held₀ once (i + 1)
         part-next two = record {
           most = omega arith;
           size = noted-length held x v ∙ s .size;
@@ -179,13 +180,13 @@ module _ (cs ws : List ℕ) (n : ℕ) (g : Given cs ws n) where
             go j k m o e (yes d) = once-at k o (s .links j k d o e)
             go j k m o (inl e) (no d) =
                 let z : j ≡ i = omega arith in
-                noted-hit bs held x v next-right k (omega (arith, s .size, s .room)) (ap (λ (y : ℕ). getD cs (y * 7 + 6) 0) (sym z) ∙ e)
+                noted-hit bs held x v next-right k (omega (arith, s .size, s .room)) (ap (λ (y : ℕ). cell-next cs y) (sym z) ∙ e)
             go j k m o (inr e) (no d) =
                 let z : j ≡ i = omega arith in
-                absurd (e .0 (ap (λ (y : ℕ). getD cs (y * 7) 0) z ∙ two))
+                absurd (e .0 (ap (λ (y : ℕ). cell-kind cs y) z ∙ two))
 
         -- a tree its first child too
-        module _ (y u : ℕ) (y-is : y ≡ getD cs (i * 7 + 4) 0) (first-right : Right bs y u) (first-in : y ≤ n) where
+        module _ (y u : ℕ) (y-is : y ≡ cell-first cs i) (first-right : Right bs y u) (first-in : y ≤ n) where
           abbrev twice : List ℕ
           twice = noted once y u
 
@@ -209,22 +210,22 @@ module _ (cs ws : List ℕ) (n : ℕ) (g : Given cs ws n) where
               go j k m o e (yes d) = twice-at k o (once-at k o (s .links j k d o e))
               go j k m o (inl e) (no d) =
                   let z : j ≡ i = omega arith in
-                  twice-at k o (noted-hit bs held x v next-right k (omega (arith, s .size, s .room)) (ap (λ (a : ℕ). getD cs (a * 7 + 6) 0) (sym z) ∙ e))
+                  twice-at k o (noted-hit bs held x v next-right k (omega (arith, s .size, s .room)) (ap (λ (a : ℕ). cell-next cs a) (sym z) ∙ e))
               go j k m o (inr e) (no d) =
                   let z : j ≡ i = omega arith in
-                  noted-hit bs once y u first-right k (wide k o) (y-is ∙ ap (λ (a : ℕ). getD cs (a * 7 + 4) 0) (sym z) ∙ e .1)
+                  noted-hit bs once y u first-right k (wide k o) (y-is ∙ ap (λ (a : ℕ). cell-first cs a) (sym z) ∙ e .1)
 
       pub noting-next : (held′ : List ℕ) → held′ ≡ links-noted cs held i → Noting held₀ held′ (i + 1)
       noting-next held′ e = ⊎-elim tree-turn part-turn (h .site i l .own)
         where
           tree-turn : TreeAt cs ws bs us n i → Noting held₀ held′ (i + 1)
           tree-turn t =
-              let other : getD cs (i * 7) 0 ≡ 2 → ⊥ = λ two. not-part (t .type) (sym (t .kind-is) ∙ two) in
+              let other : cell-kind cs i ≡ 2 → ⊥ = λ two. not-part (t .type) (sym (t .kind-is) ∙ two) in
               rw (e, links-tree cs held i other)
               (tree-next (leads-right i (getD bs i 0) (t .rest) x v (t .next-is) own-base) (leads-in i (getD bs i 0) (t .rest) x (t .next-is))
-              (getD cs (i * 7 + 4) 0) (v + getD cs (i * 7 + 2) 0) refl
-              (leads-right i (t .start) (t .kids) (getD cs (i * 7 + 4) 0) (v + getD cs (i * 7 + 2) 0) (t .first-is) (omega (arith, own-base, t .start-is)))
-              (leads-in i (t .start) (t .kids) (getD cs (i * 7 + 4) 0) (t .first-is)))
+              (cell-first cs i) (v + cell-position cs i) refl
+              (leads-right i (t .start) (t .kids) (cell-first cs i) (v + cell-position cs i) (t .first-is) (omega (arith, own-base, t .start-is)))
+              (leads-in i (t .start) (t .kids) (cell-first cs i) (t .first-is)))
 
           part-turn : PartAt cs ws bs us n i → Noting held₀ held′ (i + 1)
           part-turn t =

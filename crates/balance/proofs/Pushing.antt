@@ -7,6 +7,7 @@ use native.Mathlib.Omega.{arith}
 use native.Mathlib.Decide.{ℕ-discrete}
 use borrow.Author.Tests.{eq-eqb, ne-eqb}
 use lib.ListN.{length, getD}
+use Rattle.tree.specs.Cells.{cell-kind, cell-id, cell-position, cell-length, cell-first, cell-count, cell-next}
 use Rattle.tree.specs.Trees.{Trees, nil}
 use Rattle.store.specs.Store.{Holds, Staged, Same, Readable, PushedTree, PushedPart}
 use Rattle.store.proofs.Frame.{same-less, staged-frame, frame}
@@ -56,13 +57,13 @@ module _ (held cs ws : List ℕ) (n high low i : ℕ) (l : i < n) (b : Building 
   abbrev site : Site cs ws bs₁ us₁ n i
   site = h₁ .site i l
 
-  pub start-fits : getD held i 0 + getD cs (i * 7 + 2) 0 ≤ 4294967295
+  pub start-fits : getD held i 0 + cell-position cs i ≤ 4294967295
   start-fits = ⊎-elim (λ (t : TreeAt cs ws bs₁ us₁ n i). omega (arith, b .based i l, t .start-is, t .small))
       (λ (t : PartAt cs ws bs₁ us₁ n i). omega (arith, b .based i l, t .start-is, t .small)) (site .own)
 
-  pub next-in : getD cs (i * 7 + 6) 0 ≤ n
-  next-in = ⊎-elim (λ (t : TreeAt cs ws bs₁ us₁ n i). leads-in cs ws n (b .given) i (getD bs₁ i 0) (t .rest) (getD cs (i * 7 + 6) 0) (t .next-is))
-      (λ (t : PartAt cs ws bs₁ us₁ n i). leads-in cs ws n (b .given) i (getD bs₁ i 0) (t .rest) (getD cs (i * 7 + 6) 0) (t .next-is)) (site .own)
+  pub next-in : cell-next cs i ≤ n
+  next-in = ⊎-elim (λ (t : TreeAt cs ws bs₁ us₁ n i). leads-in cs ws n (b .given) i (getD bs₁ i 0) (t .rest) (cell-next cs i) (t .next-is))
+      (λ (t : PartAt cs ws bs₁ us₁ n i). leads-in cs ws n (b .given) i (getD bs₁ i 0) (t .rest) (cell-next cs i) (t .next-is)) (site .own)
 
   -- a number names an address that can be read
   pub address-readable : (x : ℕ) → x ≤ n → Readable held (address high x)
@@ -72,19 +73,19 @@ module _ (held cs ws : List ℕ) (n high low i : ℕ) (l : i < n) (b : Building 
       go (yes e) = absurd (z (address-none high x e))
       go (no e) = omega (arith, address-some high x e, b .high-is, b .under, b .inside)
 
-  module _ (two : getD cs (i * 7) 0 ≡ 2) where
+  module _ (two : cell-kind cs i ≡ 2) where
     pub part-site : PartAt cs ws bs₁ us₁ n i
     part-site = ⊎-elim (λ (t : TreeAt cs ws bs₁ us₁ n i). absurd (not-part (t .type) (sym (t .kind-is) ∙ two))) (λ t. t) (site .own)
 
-    pub words-fit : low + getD cs (i * 7 + 4) 0 ≤ 4294967295
+    pub words-fit : low + cell-first cs i ≤ 4294967295
     words-fit = omega (arith, part-site .inside, b .fits)
 
-  module _ (other : getD cs (i * 7) 0 ≡ 2 → ⊥) where
+  module _ (other : cell-kind cs i ≡ 2 → ⊥) where
     pub tree-site : TreeAt cs ws bs₁ us₁ n i
     tree-site = ⊎-elim (λ t. t) (λ (t : PartAt cs ws bs₁ us₁ n i). absurd (other (t .kind-is))) (site .own)
 
-    pub first-in : getD cs (i * 7 + 4) 0 ≤ n
-    first-in = leads-in cs ws n (b .given) i (tree-site .start) (tree-site .kids) (getD cs (i * 7 + 4) 0) (tree-site .first-is)
+    pub first-in : cell-first cs i ≤ n
+    first-in = leads-in cs ws n (b .given) i (tree-site .start) (tree-site .kids) (cell-first cs i) (tree-site .first-is)
 
   -- A node more: all that was there stays.
   module _ (held′ : List ℕ) (top r : ℕ) (top-is : top ≡ high - (i + 1) * 10) (s : Same held held′ 0 top (top + 10)) (at : r ≡ top) where
@@ -114,35 +115,35 @@ module _ (held cs ws : List ℕ) (n high low i : ℕ) (l : i < n) (b : Building 
         go k m o (no e) =
             frame held held′ n (high - (i + 1) * 10) low (high - i * 10) low (omega arith) (omega arith) same (high - (k + 1) * 10) (getD us₁ k nil) (b .built k (omega arith) o)
 
-  module _ (held′ : List ℕ) (top start r : ℕ) (top-is : top ≡ high - (i + 1) * 10) (start-is : start ≡ getD held i 0 + getD cs (i * 7 + 2) 0)
-      (next : ℕ) (next-is : next ≡ address high (getD cs (i * 7 + 6) 0)) where
+  module _ (held′ : List ℕ) (top start r : ℕ) (top-is : top ≡ high - (i + 1) * 10) (start-is : start ≡ getD held i 0 + cell-position cs i)
+      (next : ℕ) (next-is : next ≡ address high (cell-next cs i)) where
     below : high - (i + 1) * 10 ≡ top
     below = sym top-is
 
-    pub pushed-part : (two : getD cs (i * 7) 0 ≡ 2) (from : ℕ) → from ≡ low + getD cs (i * 7 + 4) 0
-        → PushedPart held held′ top start (getD cs (i * 7 + 3) 0) from (getD cs (i * 7 + 5) 0) next r → Building held′ cs ws n high low i
+    pub pushed-part : (two : cell-kind cs i ≡ 2) (from : ℕ) → from ≡ low + cell-first cs i
+        → PushedPart held held′ top start (cell-length cs i) from (cell-count cs i) next r → Building held′ cs ws n high low i
     pushed-part two from from-is p =
         let t = part-site two in
         let starts : start ≡ t .start = omega (arith, start-is, b .based i l, t .start-is) in
-        let later : Holds held n top low next (t .rest) = rw (next-is, top-is) (link-held held cs ws n high low (i + 1) b i (getD bs₁ i 0) (t .rest) (getD cs (i * 7 + 6) 0) (omega arith) (t .next-is)) in
+        let later : Holds held n top low next (t .rest) = rw (next-is, top-is) (link-held held cs ws n high low (i + 1) b i (getD bs₁ i 0) (t .rest) (cell-next cs i) (omega arith) (t .next-is)) in
         let staged : Staged held low from (t .held) = record {
           above = omega (arith, from-is);
           within = omega (arith, from-is, t .inside, b .staged .within);
           same = λ k m.
-              let z : from + k ≡ low + (getD cs (i * 7 + 4) 0 + k) = omega (arith, from-is) in
-              ap (λ (j : ℕ). getD held j 0) z ∙ b .staged .same (getD cs (i * 7 + 4) 0 + k) (omega (arith, t .inside)) ∙ t .words-at k m;
-          narrow = λ k m. omega (arith, t .words-at k m, b .staged .narrow (getD cs (i * 7 + 4) 0 + k) (omega (arith, t .inside)));
+              let z : from + k ≡ low + (cell-first cs i + k) = omega (arith, from-is) in
+              ap (λ (j : ℕ). getD held j 0) z ∙ b .staged .same (cell-first cs i + k) (omega (arith, t .inside)) ∙ t .words-at k m;
+          narrow = λ k m. omega (arith, t .words-at k m, b .staged .narrow (cell-first cs i + k) (omega (arith, t .inside)));
         } in
         let new = p .holds n low (t .held) (t .rest) (omega (arith, l)) (omega (arith, top-is, b .high-is)) (omega (arith, top-is, b .high-is, b .under)) (t .count-is) staged later in
         built-more held′ top r top-is (p .kept) (p .address) (rw (t .here, ← starts, ← (t .len-is)) new)
 
-    pub pushed-tree : (other : getD cs (i * 7) 0 ≡ 2 → ⊥) (first : ℕ) → first ≡ address high (getD cs (i * 7 + 4) 0)
-        → PushedTree held held′ top (getD cs (i * 7) 0) (getD cs (i * 7 + 1) 0) start (getD cs (i * 7 + 3) 0) first next r → Building held′ cs ws n high low i
+    pub pushed-tree : (other : cell-kind cs i ≡ 2 → ⊥) (first : ℕ) → first ≡ address high (cell-first cs i)
+        → PushedTree held held′ top (cell-kind cs i) (cell-id cs i) start (cell-length cs i) first next r → Building held′ cs ws n high low i
     pushed-tree other first first-is p =
         let t = tree-site other in
         let starts : start ≡ t .start = omega (arith, start-is, b .based i l, t .start-is) in
-        let later : Holds held n top low next (t .rest) = rw (next-is, top-is) (link-held held cs ws n high low (i + 1) b i (getD bs₁ i 0) (t .rest) (getD cs (i * 7 + 6) 0) (omega arith) (t .next-is)) in
-        let inner : Holds held n top low first (t .kids) = rw (first-is, top-is) (link-held held cs ws n high low (i + 1) b i (t .start) (t .kids) (getD cs (i * 7 + 4) 0) (omega arith) (t .first-is)) in
+        let later : Holds held n top low next (t .rest) = rw (next-is, top-is) (link-held held cs ws n high low (i + 1) b i (getD bs₁ i 0) (t .rest) (cell-next cs i) (omega arith) (t .next-is)) in
+        let inner : Holds held n top low first (t .kids) = rw (first-is, top-is) (link-held held cs ws n high low (i + 1) b i (t .start) (t .kids) (cell-first cs i) (omega arith) (t .first-is)) in
         let new = p .holds n low (t .type) (t .kids) (t .rest) (omega (arith, l)) (omega (arith, top-is, b .high-is)) (omega (arith, top-is, b .high-is, b .under)) (t .kind-is) (t .id-is) inner later in
         built-more held′ top r top-is (p .kept) (p .address) (rw (t .here, ← starts, ← (t .len-is)) new)
 

@@ -10,7 +10,7 @@ use native.Mathlib.Decide.{decLt, ℕ-discrete}
 use lib.ListN.{length, getD, drop, length-append, List·getD-append}
 use lib.Seq.{getD-drop, drop-drop, drop-at}
 use Rattle.tree.specs.Trees.{Trees, nil, tree, part, nodes, siblings}
-use Rattle.tree.specs.Cells.{packed, kind, id-word, cells, relative, unless-none}
+use Rattle.tree.specs.Cells.{packed, kind, id-word, cells, relative, unless-none, cell-width, cell-kind, cell-id, cell-position, cell-length, cell-first, cell-count, cell-next}
 use Rattle.tree.proofs.CellLaws.{length-cells}
 use Rattle.store.proofs.Flow.{relative-nodes, Later, more, flow, flow-tree, flow-part}
 use Rattle.store.proofs.Unique.{not-part}
@@ -75,14 +75,14 @@ module _ (cs ws bs : List ℕ) (us : List Trees) (n : ℕ) where
     pub kids : Trees
     pub rest : Trees
     pub here : getD us k nil ≡ tree type start len kids rest
-    pub kind-is : getD cs (k * 7) 0 ≡ kind type
-    pub id-is : getD cs (k * 7 + 1) 0 ≡ id-word type
-    pub start-is : getD bs k 0 + getD cs (k * 7 + 2) 0 ≡ start
+    pub kind-is : cell-kind cs k ≡ kind type
+    pub id-is : cell-id cs k ≡ id-word type
+    pub start-is : getD bs k 0 + cell-position cs k ≡ start
     pub small : start ≤ 4294967295
-    pub len-is : getD cs (k * 7 + 3) 0 ≡ len
-    pub first-is : Leads k start kids (getD cs (k * 7 + 4) 0)
-    pub count-is : getD cs (k * 7 + 5) 0 ≡ siblings kids
-    pub next-is : Leads k (getD bs k 0) rest (getD cs (k * 7 + 6) 0)
+    pub len-is : cell-length cs k ≡ len
+    pub first-is : Leads k start kids (cell-first cs k)
+    pub count-is : cell-count cs k ≡ siblings kids
+    pub next-is : Leads k (getD bs k 0) rest (cell-next cs k)
 
   -- cell k is a part, with these words
   pub record PartAt (k : ℕ) : Type 0 where
@@ -91,18 +91,18 @@ module _ (cs ws bs : List ℕ) (us : List Trees) (n : ℕ) where
     pub held : List ℕ
     pub rest : Trees
     pub here : getD us k nil ≡ part start len held rest
-    pub kind-is : getD cs (k * 7) 0 ≡ 2
-    pub start-is : getD bs k 0 + getD cs (k * 7 + 2) 0 ≡ start
+    pub kind-is : cell-kind cs k ≡ 2
+    pub start-is : getD bs k 0 + cell-position cs k ≡ start
     pub small : start ≤ 4294967295
-    pub len-is : getD cs (k * 7 + 3) 0 ≡ len
-    pub inside : getD cs (k * 7 + 4) 0 + length held ≤ length ws
-    pub words-at : (j : ℕ) → j < length held → getD ws (getD cs (k * 7 + 4) 0 + j) 0 ≡ getD held j 0
-    pub count-is : getD cs (k * 7 + 5) 0 ≡ length held
-    pub next-is : Leads k (getD bs k 0) rest (getD cs (k * 7 + 6) 0)
+    pub len-is : cell-length cs k ≡ len
+    pub inside : cell-first cs k + length held ≤ length ws
+    pub words-at : (j : ℕ) → j < length held → getD ws (cell-first cs k + j) 0 ≡ getD held j 0
+    pub count-is : cell-count cs k ≡ length held
+    pub next-is : Leads k (getD bs k 0) rest (cell-next cs k)
 
   -- cell j names cell k by next, or by first
   abbrev pub Named : (j k : ℕ) → Type 0
-  Named j k = (getD cs (j * 7 + 6) 0 ≡ suc k) ⊎ ((getD cs (j * 7) 0 ≡ 2 → ⊥) × (getD cs (j * 7 + 4) 0 ≡ suc k))
+  Named j k = (cell-next cs j ≡ suc k) ⊎ ((cell-kind cs j ≡ 2 → ⊥) × (cell-first cs j ≡ suc k))
 
   -- cell k is the first one, or an earlier one names it
   abbrev pub Reached : (k : ℕ) → Type 0
@@ -130,33 +130,33 @@ module _ (cs ws bs : List ℕ) (us : List Trees) (n : ℕ) where
     pub after-words : List ℕ
     pub bases-are : drop c bs ≡ bases q ts ++ after-bases
     pub trees-are : drop c us ≡ onwards ts ++ after-trees
-    pub cells-are : drop (c * 7) cs ≡ flow (suc c) w (more q ts after-cells)
+    pub cells-are : drop (c * cell-width) cs ≡ flow (suc c) w (more q ts after-cells)
     pub words-are : drop w ws ≡ packed ts ++ after-words
     pub words-in : w + length (packed ts) ≤ length ws
     pub cells-in : c + nodes ts ≤ n
     pub fits : Fits q ts
     pub reached : 1 ≤ nodes ts → Reached c
 
-  cell-word : (c k x : ℕ) (l : List ℕ) → drop (c * 7) cs ≡ l → getD l k 0 ≡ x → getD cs (c * 7 + k) 0 ≡ x
-  cell-word c k x l e h = sym (getD-drop (c * 7) cs k 0) ∙ ap (λ (m : List ℕ). getD m k 0) e ∙ h
+  cell-word : (c k x : ℕ) (l : List ℕ) → drop (c * cell-width) cs ≡ l → getD l k 0 ≡ x → getD cs (c * cell-width + k) 0 ≡ x
+  cell-word c k x l e h = sym (getD-drop (c * cell-width) cs k 0) ∙ ap (λ (m : List ℕ). getD m k 0) e ∙ h
 
-  cell-skip : (c : ℕ) (p r : List ℕ) → drop (c * 7) cs ≡ p ++ r → length p ≡ 7 → drop (suc c * 7) cs ≡ r
+  cell-skip : (c : ℕ) (p r : List ℕ) → drop (c * cell-width) cs ≡ p ++ r → length p ≡ 7 → drop (suc c * cell-width) cs ≡ r
   cell-skip c p r e h =
-      let z : suc c * 7 ≡ c * 7 + 7 = omega arith in
-      ap (λ (k : ℕ). drop k cs) z ∙ skip cs (c * 7) p r 7 e h
+      let z : suc c * cell-width ≡ c * cell-width + cell-width = omega arith in
+      ap (λ (k : ℕ). drop k cs) z ∙ skip cs (c * cell-width) p r 7 e h
 
   module _ (q w c : ℕ) (t : Option ℕ) (s l : ℕ) (kids rest : Trees) (f : From q w c (tree t s l kids rest)) where
     abbrev after : ℕ
     after = suc c + nodes kids
 
-    abbrev spelt : drop (c * 7) cs ≡ kind t ∷ id-word t ∷ (s - q) ∷ l ∷ unless-none kids (suc (suc c)) ∷ siblings kids ∷ unless-none rest (suc (suc c) + nodes kids)
+    abbrev spelt : drop (c * cell-width) cs ≡ kind t ∷ id-word t ∷ (s - q) ∷ l ∷ unless-none kids (suc (suc c)) ∷ siblings kids ∷ unless-none rest (suc (suc c) + nodes kids)
         ∷ flow (suc (suc c)) w (more s kids (more q rest (f .after-cells)))
     spelt = f .cells-are ∙ flow-tree (suc c) w q t s l kids rest (f .after-cells)
 
     one-later : suc (suc c) + nodes kids ≡ suc after
     one-later = omega arith
 
-    next-named : getD cs (c * 7 + 6) 0 ≡ unless-none rest (suc after)
+    next-named : cell-next cs c ≡ unless-none rest (suc after)
     next-named = cell-word c 6 _ _ spelt refl ∙ ap (unless-none rest) one-later
 
     inner-bases : drop (suc c) bs ≡ bases s kids ++ (bases q rest ++ f .after-bases)
@@ -171,7 +171,7 @@ module _ (cs ws bs : List ℕ) (us : List Trees) (n : ℕ) where
     unfolding packed
     inner-words = f .words-are ∙ append-assoc (packed kids) (packed rest) (f .after-words)
 
-    inner-cells : drop (suc c * 7) cs ≡ flow (suc (suc c)) w (more s kids (more q rest (f .after-cells)))
+    inner-cells : drop (suc c * cell-width) cs ≡ flow (suc (suc c)) w (more s kids (more q rest (f .after-cells)))
     inner-cells =
         cell-skip c (kind t ∷ id-word t ∷ (s - q) ∷ l ∷ unless-none kids (suc (suc c)) ∷ siblings kids ∷ unless-none rest (suc (suc c) + nodes kids) ∷ []) _ spelt refl
 
@@ -184,13 +184,13 @@ module _ (cs ws bs : List ℕ) (us : List Trees) (n : ℕ) where
     later-words : drop (w + length (packed kids)) ws ≡ packed rest ++ f .after-words
     later-words = skip ws w (packed kids) (packed rest ++ f .after-words) (length (packed kids)) inner-words refl
 
-    later-cells : drop (after * 7) cs ≡ flow (suc after) (w + length (packed kids)) (more q rest (f .after-cells))
+    later-cells : drop (after * cell-width) cs ≡ flow (suc after) (w + length (packed kids)) (more q rest (f .after-cells))
     unfolding flow
     later-cells =
-        let z : after * 7 ≡ suc c * 7 + 7 * nodes kids = omega arith in
+        let z : after * cell-width ≡ suc c * cell-width + cell-width * nodes kids = omega arith in
         ap (λ (k : ℕ). drop k cs) z
-        ∙ skip cs (suc c * 7) (cells (suc (suc c)) w (relative s kids)) _ (7 * nodes kids) inner-cells
-        (length-cells (suc (suc c)) w (relative s kids) ∙ ap (λ (k : ℕ). 7 * k) (relative-nodes s kids))
+        ∙ skip cs (suc c * cell-width) (cells (suc (suc c)) w (relative s kids)) _ (cell-width * nodes kids) inner-cells
+        (length-cells (suc (suc c)) w (relative s kids) ∙ ap (λ (k : ℕ). cell-width * k) (relative-nodes s kids))
         ∙ ap (λ (k : ℕ). flow k (w + length (packed kids)) (more q rest (f .after-cells))) one-later
 
     words-more : length (packed (tree t s l kids rest)) ≡ length (packed kids) + length (packed rest)
@@ -218,7 +218,7 @@ module _ (cs ws bs : List ℕ) (us : List Trees) (n : ℕ) where
         c,
         omega arith,
         inr (
-          (λ e. not-part t (sym (head-at cs (c * 7) (kind t) 0 _ spelt) ∙ e)),
+          (λ e. not-part t (sym (head-at cs (c * cell-width) (kind t) 0 _ spelt) ∙ e)),
           cell-word c 4 _ _ spelt refl ∙ some-named kids (suc (suc c)) some,
         ),
       );
@@ -253,7 +253,7 @@ module _ (cs ws bs : List ℕ) (us : List Trees) (n : ℕ) where
       kids = kids;
       rest = rest;
       here = head-at us c (tree t s l kids rest) nil _ (f .trees-are);
-      kind-is = head-at cs (c * 7) (kind t) 0 _ spelt;
+      kind-is = head-at cs (c * cell-width) (kind t) 0 _ spelt;
       id-is = cell-word c 1 _ _ spelt refl;
       start-is = omega (arith, base-here, cell-word c 2 (s - q) _ spelt refl, f .fits .starts);
       small = f .fits .small;
@@ -264,7 +264,7 @@ module _ (cs ws bs : List ℕ) (us : List Trees) (n : ℕ) where
     }
 
   module _ (q w c s l : ℕ) (vs : List ℕ) (rest : Trees) (f : From q w c (part s l vs rest)) where
-    abbrev written : drop (c * 7) cs ≡ 2 ∷ 0 ∷ (s - q) ∷ l ∷ w ∷ length vs ∷ unless-none rest (suc (suc c)) ∷ flow (suc (suc c)) (w + length vs) (more q rest (f .after-cells))
+    abbrev written : drop (c * cell-width) cs ≡ 2 ∷ 0 ∷ (s - q) ∷ l ∷ w ∷ length vs ∷ unless-none rest (suc (suc c)) ∷ flow (suc (suc c)) (w + length vs) (more q rest (f .after-cells))
     written = f .cells-are ∙ flow-part (suc c) w q s l vs rest (f .after-cells)
 
     rest-bases : drop (suc c) bs ≡ bases q rest ++ f .after-bases
@@ -310,14 +310,14 @@ module _ (cs ws bs : List ℕ) (us : List Trees) (n : ℕ) where
     part-here : PartAt c
     unfolding onwards
     part-here =
-        let w-is : getD cs (c * 7 + 4) 0 ≡ w = cell-word c 4 _ _ written refl in
+        let w-is : cell-first cs c ≡ w = cell-word c 4 _ _ written refl in
         record {
           start = s;
           len = l;
           held = vs;
           rest = rest;
           here = head-at us c (part s l vs rest) nil _ (f .trees-are);
-          kind-is = head-at cs (c * 7) 2 0 _ written;
+          kind-is = head-at cs (c * cell-width) 2 0 _ written;
           start-is = omega (arith, part-base, cell-word c 2 (s - q) _ written refl, f .fits .starts);
           small = f .fits .small;
           len-is = cell-word c 3 _ _ written refl;

@@ -16,11 +16,11 @@ module _ (held : List ℕ) (top root : ℕ) (ts : Trees) (s : Standing held top 
   n-is : n ≡ nodes ts
   n-is = n-told ∙ tells-cells held (s .base) top (s .low) root ts (s .holds) ∙ omega (arith, s .few)
 
-  pub refuses-cells : length out / 7 < n → record { outcome = refused 12 0; outputs = out ∷ words ∷ [] } ≡ settled-tree ts out words
+  pub refuses-cells : length out / cell-width < n → record { outcome = refused 12 0; outputs = out ∷ words ∷ [] } ≡ settled-tree ts out words
   unfolding settled-tree
   refuses-cells h = rw (few-cells (nodes ts) (length (packed ts)) (length out) (length words) (omega (arith, s .few)) (omega (arith, n-is)))
 
-  module _ (fits : n ≤ length out / 7) (m : ℕ) (m-told : m ≡ told held root 7) where
+  module _ (fits : n ≤ length out / cell-width) (m : ℕ) (m-told : m ≡ told held root 7) where
     m-is : m ≡ length (packed ts)
     m-is = m-told ∙ tells-words held (s .base) top (s .low) root ts (s .holds) ∙ omega (arith, s .narrow)
 

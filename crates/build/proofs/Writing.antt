@@ -42,10 +42,10 @@ module _ (held : List ℕ) (top kids : ℕ) (q : Writes held top kids) (id S l :
   nodes-is : nodes whole ≡ n
   nodes-is = whole-nodes id S l (q .trees) ∙ sym n-is
 
-  pub refuses-cells : length out / 7 < n → record { outcome = refused 12 0; outputs = out ∷ words ∷ [] } ≡ written-out id S l (q .trees) out words
+  pub refuses-cells : length out / cell-width < n → record { outcome = refused 12 0; outputs = out ∷ words ∷ [] } ≡ written-out id S l (q .trees) out words
   refuses-cells h = rw (cells-short (nodes whole) (length (packed whole)) (length out) (length words) (omega (arith, nodes-is)))
 
-  module _ (fits : n ≤ length out / 7) (m : ℕ) (m-told : m ≡ told held kids 7) where
+  module _ (fits : n ≤ length out / cell-width) (m : ℕ) (m-told : m ≡ told held kids 7) where
     m-is : m ≡ length (packed (q .trees))
     m-is = let e = m-told ∙ tells-words held (q .base) top (q .low) kids (q .trees) (q .holds) in omega (arith, q .narrow, e)
 

@@ -7,6 +7,7 @@ use native.Mathlib.Decide.{ℕ-discrete}
 use borrow.Author.Tests.{ne-eqb, eqb-true, eqb-false, not-true}
 use lib.Dec.{eqb}
 use lib.ListN.{length, getD}
+use Rattle.tree.specs.Cells.{cell-width}
 use Rattle.rules.specs.Cell.{Cell}
 use Rattle.rules.specs.Lowest.{words-end}
 use Rattle.rules.proofs.Tests.{both}
@@ -31,7 +32,7 @@ in-its-place {held} {n} {top} {limit} {c} h =
       at-cell = eqb-true (getD held (n + (top - 1) * 4) 0) c e;
     }
 
-module _ {T : ℕ} {parts : Bool} {ws : List ℕ} {n S : ℕ} {cs held : List ℕ} {i w top limit : ℕ} (q : n * 7 ≡ length cs)
+module _ {T : ℕ} {parts : Bool} {ws : List ℕ} {n S : ℕ} {cs held : List ℕ} {i w top limit : ℕ} (q : n * cell-width ≡ length cs)
     (s : Walk T parts ws n S cs held i w top limit) (below : i < n) where
   pub misplaced : in-place held n top limit (i + 1) ≡ false → i + 1 ≡ whole T parts ws n S cs
   unfolding in-place

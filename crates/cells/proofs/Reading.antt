@@ -10,13 +10,14 @@ use borrow.Author.Tests.{le-ltb, lt-ltb, le-leb, lt-leb, eq-eqb, ne-eqb}
 use lib.Dec.{ltb, leb, eqb}
 use lib.ListN.{length, getD, set, drop, length-drop, List·getD-eq-default}
 use lib.Seq.{getD-set-same, getD-set-other, getD-drop}
+use Rattle.tree.specs.Cells.{cell-width, cell-kind, cell-next}
 use Rattle.rules.specs.Cell.{Cell, cells-of}
 use Rattle.rules.specs.Lowest.{chain, chains, any-part}
 use Rattle.cells.specs.Steps.{cell-at, followed, Last}
 use Rattle.rules.proofs.Keeping.{chain-leads, chain-ends}
 
 -- cell i of a word list
-pub cells-drop : (i : ℕ) (cs : List ℕ) → i * 7 + 7 ≤ length cs → drop i (cells-of cs) ≡ cell-at cs i ∷ drop (suc i) (cells-of cs)
+pub cells-drop : (i : ℕ) (cs : List ℕ) → i * cell-width + cell-width ≤ length cs → drop i (cells-of cs) ≡ cell-at cs i ∷ drop (suc i) (cells-of cs)
 unfolding cells-of
 cells-drop i [] h = absurd (omega arith)
 cells-drop i (k ∷ []) h = absurd (omega arith)
@@ -28,17 +29,17 @@ cells-drop i (k ∷ d ∷ p ∷ l ∷ f ∷ m ∷ []) h = absurd (omega arith)
 cells-drop zero (k ∷ d ∷ p ∷ l ∷ f ∷ m ∷ x ∷ cs) h = refl
 cells-drop (suc i) (k ∷ d ∷ p ∷ l ∷ f ∷ m ∷ x ∷ cs) h =
     let ws = k ∷ d ∷ p ∷ l ∷ f ∷ m ∷ x ∷ cs in
-    let a : (j : ℕ) → getD ws (suc i * 7 + j) 0 ≡ getD cs (i * 7 + j) 0 =
-    λ j. let e : suc i * 7 + j ≡ suc (suc (suc (suc (suc (suc (suc (i * 7 + j))))))) = omega arith in ap (λ y. getD ws y 0) e in
-    let a₀ : getD ws (suc i * 7) 0 ≡ getD cs (i * 7) 0 =
-    let e : suc i * 7 ≡ suc (suc (suc (suc (suc (suc (suc (i * 7))))))) = omega arith in ap (λ y. getD ws y 0) e in
+    let a : (j : ℕ) → getD ws (suc i * cell-width + j) 0 ≡ getD cs (i * cell-width + j) 0 =
+    λ j. let e : suc i * cell-width + j ≡ suc (suc (suc (suc (suc (suc (suc (i * cell-width + j))))))) = omega arith in ap (λ y. getD ws y 0) e in
+    let a₀ : getD ws (suc i * cell-width) 0 ≡ cell-kind cs i =
+    let e : suc i * cell-width ≡ suc (suc (suc (suc (suc (suc (suc (i * cell-width))))))) = omega arith in ap (λ y. getD ws y 0) e in
     cells-drop i cs (omega arith) ∙ ap (λ (c : Cell). c ∷ drop (suc i) (cells-of cs)) (same-cell _ _ _ _ _ _ _ _ _ _ _ _ _ _ (sym a₀) (sym (a 1)) (sym (a 2)) (sym (a 3)) (sym (a 4)) (sym (a 5)) (sym (a 6)))
   where
     same-cell : (k d p l f m x k′ d′ p′ l′ f′ m′ x′ : ℕ) → k ≡ k′ → d ≡ d′ → p ≡ p′ → l ≡ l′ → f ≡ f′ → m ≡ m′ → x ≡ x′
         → _≡_ {A = Cell} (record { kind = k; id = d; position = p; len = l; first = f; count = m; next = x }) (record { kind = k′; id = d′; position = p′; len = l′; first = f′; count = m′; next = x′ })
     same-cell k d p l f m x k′ d′ p′ l′ f′ m′ x′ e₀ e₁ e₂ e₃ e₄ e₅ e₆ = rw (e₀, e₁, e₂, e₃, e₄, e₅, e₆)
 
-pub length-cells : (cs : List ℕ) → length (cells-of cs) ≡ length cs / 7
+pub length-cells : (cs : List ℕ) → length (cells-of cs) ≡ length cs / cell-width
 unfolding cells-of
 length-cells [] = refl
 length-cells (k ∷ []) = refl
@@ -63,7 +64,7 @@ chains-drop (suc i) c (k ∷ ks) =
     chains-drop i (suc c) ks ∙ ap (λ y. chains y (drop i ks)) e
 
 -- a chain's length is looked up in the lengths of all cells
-pub chain-followed : (cs : List ℕ) (n c x : ℕ) → n * 7 ≡ length cs → c ≤ n → chain c x (chains (suc c) (drop c (cells-of cs))) ≡ followed (chains 1 (cells-of cs)) n c x
+pub chain-followed : (cs : List ℕ) (n c x : ℕ) → n * cell-width ≡ length cs → c ≤ n → chain c x (chains (suc c) (drop c (cells-of cs))) ≡ followed (chains 1 (cells-of cs)) n c x
 unfolding followed
 chain-followed cs n c x q h = go (decLe x c) (decLt n x)
   where
@@ -85,8 +86,8 @@ chain-followed cs n c x q h = go (decLe x c) (decLt n x)
         (chain-leads c x _ (omega arith) ∙ (ap (λ y. getD y (x - suc c) 0) (sym all) ∙ (getD-drop c (chains 1 (cells-of cs)) (x - suc c) 0 ∙ ap (λ y. getD (chains 1 (cells-of cs)) y 0) e)))
 
 -- one length from those of later cells
-pub length-at : (cs : List ℕ) (n i : ℕ) → n * 7 ≡ length cs → i < n
-    → getD (chains 1 (cells-of cs)) i 0 ≡ suc (followed (chains 1 (cells-of cs)) n (suc i) (getD cs (i * 7 + 6) 0))
+pub length-at : (cs : List ℕ) (n i : ℕ) → n * cell-width ≡ length cs → i < n
+    → getD (chains 1 (cells-of cs)) i 0 ≡ suc (followed (chains 1 (cells-of cs)) n (suc i) (cell-next cs i))
 unfolding chains
 length-at cs n i q h =
     let ks = cells-of cs in
@@ -94,7 +95,7 @@ length-at cs n i q h =
     let a : getD (chains 1 ks) i 0 ≡ getD (drop i (chains 1 ks)) 0 0 = ap (λ y. getD (chains 1 ks) y 0) (sym (add-zero i)) ∙ sym (getD-drop i (chains 1 ks) 0 0) in
     let b : drop i (chains 1 ks) ≡ chains (suc i) (cell-at cs i ∷ drop (suc i) ks) =
     chains-drop i 1 ks ∙ (ap (λ y. chains y (drop i ks)) e ∙ ap (chains (suc i)) (cells-drop i cs (omega arith))) in
-    a ∙ (ap (λ y. getD y 0 0) b ∙ ap suc (chain-followed cs n (suc i) (getD cs (i * 7 + 6) 0) q h))
+    a ∙ (ap (λ y. getD y 0 0) b ∙ ap suc (chain-followed cs n (suc i) (cell-next cs i) q h))
 
 -- lengths read from a slice that has them
 pub followed-same : (cs held : List ℕ) (n c x : ℕ) → ((j : ℕ) → c ≤ j → j < n → getD held j 0 ≡ getD (chains 1 (cells-of cs)) j 0)
@@ -150,7 +151,7 @@ followed-fits cs n c x small pos h = go (decLe x c) (decLt n x)
 abbrev pub Tail : (cs : List ℕ) (n c : ℕ) → List ℕ → Type 0
 Tail cs n c held = (j : ℕ) → c ≤ j → j < n → getD held j 0 ≡ getD (chains 1 (cells-of cs)) j 0
 
-pub tail-set : (cs held : List ℕ) (n c x v : ℕ) → n * 7 ≡ length cs → n ≤ length held → 0 < c → c ≤ n → x ≡ getD cs ((c - 1) * 7 + 6) 0 → v ≡ followed held n c x
+pub tail-set : (cs held : List ℕ) (n c x v : ℕ) → n * cell-width ≡ length cs → n ≤ length held → 0 < c → c ≤ n → x ≡ cell-next cs (c - 1) → v ≡ followed held n c x
     → Tail cs n c held → Tail cs n (c - 1) (set held (c - 1) (v + 1))
 tail-set cs held n c x v q room pos top ex ev h j a b = go (ℕ-discrete j (c - 1))
   where
@@ -160,12 +161,12 @@ tail-set cs held n c x v q room pos top ex ev h j a b = go (ℕ-discrete j (c - 
         let one : v + 1 ≡ suc v = omega arith in
         ap (λ y. getD (set held (c - 1) (v + 1)) y 0) e
         ∙ (getD-set-same held (c - 1) (v + 1) 0 (omega arith)
-        ∙ (one ∙ (ap suc (ev ∙ (followed-same cs held n c x h ∙ (ap (λ y. followed (chains 1 (cells-of cs)) n c y) ex ∙ ap (λ y. followed (chains 1 (cells-of cs)) n y (getD cs ((c - 1) * 7 + 6) 0)) (sym s))))
+        ∙ (one ∙ (ap suc (ev ∙ (followed-same cs held n c x h ∙ (ap (λ y. followed (chains 1 (cells-of cs)) n c y) ex ∙ ap (λ y. followed (chains 1 (cells-of cs)) n y (cell-next cs (c - 1))) (sym s))))
         ∙ (sym (length-at cs n (c - 1) q (omega arith)) ∙ ap (λ y. getD (chains 1 (cells-of cs)) y 0) (sym e)))))
     go (no e) = getD-set-other held (c - 1) j (v + 1) 0 e ∙ h j (omega arith) b
 
 -- no part from cell c on, and one
-pub no-part-from : (cs : List ℕ) (n c : ℕ) → n * 7 ≡ length cs → n ≤ c → any-part (drop c (cells-of cs)) ≡ false
+pub no-part-from : (cs : List ℕ) (n c : ℕ) → n * cell-width ≡ length cs → n ≤ c → any-part (drop c (cells-of cs)) ≡ false
 unfolding any-part
 no-part-from cs n c q h = go (drop c (cells-of cs)) (length-drop c (cells-of cs))
   where
@@ -173,7 +174,7 @@ no-part-from cs n c q h = go (drop c (cells-of cs)) (length-drop c (cells-of cs)
     go [] e = refl
     go (k ∷ ks) e = absurd (omega (arith, length-cells cs))
 
-pub part-here : (cs : List ℕ) (n i : ℕ) → n * 7 ≡ length cs → i < n → any-part (drop i (cells-of cs)) ≡ eqb (getD cs (i * 7) 0) 2 || any-part (drop (suc i) (cells-of cs))
+pub part-here : (cs : List ℕ) (n i : ℕ) → n * cell-width ≡ length cs → i < n → any-part (drop i (cells-of cs)) ≡ eqb (cell-kind cs i) 2 || any-part (drop (suc i) (cells-of cs))
 unfolding any-part
 part-here cs n i q h = ap any-part (cells-drop i cs (omega arith))
 
@@ -184,17 +185,17 @@ fits-at cs held n c x v small pos h e t = omega (arith, e, followed-same cs held
 abbrev pub Bare : (cs : List ℕ) (c : ℕ) → Type 0
 Bare cs c = (j : ℕ) → c ≤ j → any-part (drop j (cells-of cs)) ≡ false
 
-pub bare-start : (cs : List ℕ) (n : ℕ) → n * 7 ≡ length cs → Bare cs n
+pub bare-start : (cs : List ℕ) (n : ℕ) → n * cell-width ≡ length cs → Bare cs n
 bare-start cs n q j h = no-part-from cs n j q h
 
-pub bare-back : (cs : List ℕ) (n c : ℕ) → n * 7 ≡ length cs → 0 < c → c ≤ n → (getD cs ((c - 1) * 7) 0 ≡ 2 → ⊥) → Bare cs c → Bare cs (c - 1)
+pub bare-back : (cs : List ℕ) (n c : ℕ) → n * cell-width ≡ length cs → 0 < c → c ≤ n → (cell-kind cs (c - 1) ≡ 2 → ⊥) → Bare cs c → Bare cs (c - 1)
 bare-back cs n c q pos top ne h j a = go (ℕ-discrete j (c - 1))
   where
     go : Dec (j ≡ c - 1) → any-part (drop j (cells-of cs)) ≡ false
     go (yes e) =
         let s : suc (c - 1) ≡ c = omega arith in
         ap (λ y. any-part (drop y (cells-of cs))) e
-        ∙ (part-here cs n (c - 1) q (omega arith) ∙ rw (ne-eqb (getD cs ((c - 1) * 7) 0) 2 ne) (ap (λ y. any-part (drop y (cells-of cs))) s ∙ h c (omega arith)))
+        ∙ (part-here cs n (c - 1) q (omega arith) ∙ rw (ne-eqb (cell-kind cs (c - 1)) 2 ne) (ap (λ y. any-part (drop y (cells-of cs))) s ∙ h c (omega arith)))
     go (no e) = h j (omega arith)
 
 pub last-none : (cs : List ℕ) (n c : ℕ) → c ≡ 0 → Bare cs c → Last cs n 0
@@ -204,14 +205,14 @@ or-right : (x : Bool) → x || true ≡ true
 or-right true = refl
 or-right false = refl
 
-before-part : (cs : List ℕ) (n c left j : ℕ) → n * 7 ≡ length cs → c ≤ n → j + suc left ≡ c → getD cs ((c - 1) * 7) 0 ≡ 2 → any-part (drop j (cells-of cs)) ≡ true
+before-part : (cs : List ℕ) (n c left j : ℕ) → n * cell-width ≡ length cs → c ≤ n → j + suc left ≡ c → cell-kind cs (c - 1) ≡ 2 → any-part (drop j (cells-of cs)) ≡ true
 before-part cs n c zero j q top e two =
     let s : j ≡ c - 1 = omega arith in
-    ap (λ y. any-part (drop y (cells-of cs))) s ∙ (part-here cs n (c - 1) q (omega arith) ∙ rw (eq-eqb (getD cs ((c - 1) * 7) 0) 2 two))
+    ap (λ y. any-part (drop y (cells-of cs))) s ∙ (part-here cs n (c - 1) q (omega arith) ∙ rw (eq-eqb (cell-kind cs (c - 1)) 2 two))
 before-part cs n c (suc left) j q top e two =
-    part-here cs n j q (omega arith) ∙ rw (before-part cs n c left (suc j) q top (omega arith) two) (or-right (eqb (getD cs (j * 7) 0) 2))
+    part-here cs n j q (omega arith) ∙ rw (before-part cs n c left (suc j) q top (omega arith) two) (or-right (eqb (cell-kind cs j) 2))
 
-pub last-found : (cs : List ℕ) (n c : ℕ) → n * 7 ≡ length cs → 0 < c → c ≤ n → getD cs ((c - 1) * 7) 0 ≡ 2 → Bare cs c → Last cs n c
+pub last-found : (cs : List ℕ) (n c : ℕ) → n * cell-width ≡ length cs → 0 < c → c ≤ n → cell-kind cs (c - 1) ≡ 2 → Bare cs c → Last cs n c
 last-found cs n c q pos top two h = record { few = top; is = λ j. go j (decLe c j) }
   where
     go : (j : ℕ) → Dec (c ≤ j) → any-part (drop j (cells-of cs)) ≡ ltb j c

@@ -11,6 +11,7 @@ use native.Mathlib.Decide.{decLt, ℕ-discrete}
 use borrow.Author.Tests.{le-ltb, eq-eqb, ne-eqb, ltb-false, eqb-true, eqb-false, not-false}
 use lib.Dec.{ltb, leb, eqb}
 use lib.ListN.{length, getD, drop, drop-of-length-le}
+use Rattle.tree.specs.Cells.{cell-width}
 use Rattle.rules.specs.Cell.{Cell, cells-of, is-part, first-child}
 use Rattle.rules.specs.Lowest.{chain, chains, Named, named, top-broken, kind-broken, id-broken, link-broken, count-broken, place-broken, order-broken, inside-broken, end-broken, part-broken, stray-broken, broken, next-named, first-named, words-end, lowest-from, top-named, bad-cell}
 use Rattle.cells.specs.Steps.{cell-at, followed, Lengths, Last, Front, own-test, count-test, range-test, stray-test, cell-test}
@@ -30,7 +31,7 @@ module _ (T : ℕ) (parts : Bool) (ws : List ℕ) (n : ℕ) where
   unfolding own-test
   own-is i k = rw (add-one i)
 
-  count-is : (cs held : List ℕ) (i : ℕ) → n * 7 ≡ length cs → i < n → Lengths cs n held
+  count-is : (cs held : List ℕ) (i : ℕ) → n * cell-width ≡ length cs → i < n → Lengths cs n held
       → count-test held n i (cell-at cs i) ≡ count-broken (suc i) (cell-at cs i) (chains (suc (suc i)) (drop (suc i) (cells-of cs)))
   unfolding count-test count-broken
   count-is cs held i q h l =
@@ -103,7 +104,7 @@ module _ (T : ℕ) (parts : Bool) (ws : List ℕ) (n : ℕ) where
           wide (some l) x y = x
 
   -- all tests at once
-  module _ (cs held : List ℕ) (i w last : ℕ) (d : Named) (ds : List Named) (q : n * 7 ≡ length cs) (below : i < n) (lengths : Lengths cs n held) (final : Last cs n last) where
+  module _ (cs held : List ℕ) (i w last : ℕ) (d : Named) (ds : List Named) (q : n * cell-width ≡ length cs) (below : i < n) (lengths : Lengths cs n held) (final : Last cs n last) where
     abbrev k₀ : Cell
     k₀ = cell-at cs i
 
@@ -241,7 +242,7 @@ module _ (T : ℕ) (parts : Bool) (ws : List ℕ) (n S : ℕ) (cs : List ℕ) wh
       go true e = refl
       go false e = absurd (h (keeps T parts ws n c w d ds k ks e))
 
-  module _ (q : n * 7 ≡ length cs) (held : List ℕ) (i w top limit : ℕ) (s : Walk held i w top limit) where
+  module _ (q : n * cell-width ≡ length cs) (held : List ℕ) (i w top limit : ℕ) (s : Walk held i w top limit) where
     pub walk-end : n ≤ i → 0 ≡ whole
     walk-end h = sym (s .same ∙ (ap (lowest-from T parts ws n (suc i) w (s .ds)) (drop-of-length-le (cells-of cs) {i = i} (omega (arith, length-cells cs))) ∙ none-left (suc i) w (s .ds)))
 
@@ -500,23 +501,23 @@ module _ (T S : ℕ) (parts : Bool) (cs ws : List ℕ) where
 
   pub bad-empty : length cs ≡ 0 → some 0 ≡ bad-cell T S parts cs ws
   unfolding bad-cell
-  bad-empty h = sym (answers (eqb (length cs) 0) (eqb (length cs % 7) 0) lowest true (eqb (length cs % 7) 0) lowest (eq-eqb (length cs) 0 h) refl refl)
+  bad-empty h = sym (answers (eqb (length cs) 0) (eqb (length cs % cell-width) 0) lowest true (eqb (length cs % cell-width) 0) lowest (eq-eqb (length cs) 0 h) refl refl)
 
-  pub bad-ragged : (length cs ≡ 0 → ⊥) → (length cs % 7 ≡ 0 → ⊥) → some 0 ≡ bad-cell T S parts cs ws
+  pub bad-ragged : (length cs ≡ 0 → ⊥) → (length cs % cell-width ≡ 0 → ⊥) → some 0 ≡ bad-cell T S parts cs ws
   unfolding bad-cell
-  bad-ragged a h = sym (answers (eqb (length cs) 0) (eqb (length cs % 7) 0) lowest false false lowest (ne-eqb (length cs) 0 a) (ne-eqb (length cs % 7) 0 h) refl)
+  bad-ragged a h = sym (answers (eqb (length cs) 0) (eqb (length cs % cell-width) 0) lowest false false lowest (ne-eqb (length cs) 0 a) (ne-eqb (length cs % cell-width) 0 h) refl)
 
-  module _ (n r : ℕ) (a : length cs ≡ 0 → ⊥) (b : length cs % 7 ≡ 0) (size : n ≡ length cs / 7) (is : r ≡ lowest-from T parts ws n 1 0 (top-named S ∷ []) (cells-of cs)) where
+  module _ (n r : ℕ) (a : length cs ≡ 0 → ⊥) (b : length cs % cell-width ≡ 0) (size : n ≡ length cs / cell-width) (is : r ≡ lowest-from T parts ws n 1 0 (top-named S ∷ []) (cells-of cs)) where
     number : lowest-from T parts ws (length (cells-of cs)) 1 0 (top-named S ∷ []) (cells-of cs) ≡ r
     number = ap (λ m. lowest-from T parts ws m 1 0 (top-named S ∷ []) (cells-of cs)) (length-cells cs ∙ sym size) ∙ sym is
 
     pub bad-none : r ≡ 0 → none ≡ bad-cell T S parts cs ws
     unfolding bad-cell
-    bad-none z = sym (answers (eqb (length cs) 0) (eqb (length cs % 7) 0) lowest false true 0 (ne-eqb (length cs) 0 a) (eq-eqb (length cs % 7) 0 b) (number ∙ z))
+    bad-none z = sym (answers (eqb (length cs) 0) (eqb (length cs % cell-width) 0) lowest false true 0 (ne-eqb (length cs) 0 a) (eq-eqb (length cs % cell-width) 0 b) (number ∙ z))
 
     pub bad-some : (r ≡ 0 → ⊥) → some r ≡ bad-cell T S parts cs ws
     unfolding bad-cell
-    bad-some z = positive r z ∙ sym (answers (eqb (length cs) 0) (eqb (length cs % 7) 0) lowest false true r (ne-eqb (length cs) 0 a) (eq-eqb (length cs % 7) 0 b) number)
+    bad-some z = positive r z ∙ sym (answers (eqb (length cs) 0) (eqb (length cs % cell-width) 0) lowest false true r (ne-eqb (length cs) 0 a) (eq-eqb (length cs % cell-width) 0 b) number)
       where
         positive : (r : ℕ) → (r ≡ 0 → ⊥) → _≡_ {A = Option ℕ} (some r) (elim r [ zero ↦ none | suc c ↦ some (suc c) ])
         positive zero z = absurd (z refl)

@@ -8,7 +8,7 @@ use native.Mathlib.Omega.{arith}
 use native.Mathlib.Nat.{add-zero}
 use lib.ListN.{length, getD, drop}
 use Rattle.tree.specs.Trees.{Trees, nil, tree, part, nodes, kids-of}
-use Rattle.tree.specs.Cells.{relative, absolute, cells, unless-none}
+use Rattle.tree.specs.Cells.{relative, absolute, cells, unless-none, cell-width}
 use Rattle.tree.specs.Listing.{listing, lines}
 use Rattle.tree.specs.Calls.{list-cells}
 use Rattle.tree.proofs.WellLaws.{well-≤}
@@ -42,7 +42,7 @@ pub record Begun (F S : ℕ) (cs : List ℕ) : Type 0 where
   pub first-is : getD cs 4 0 ≡ unless-none kids 2
   pub cells-are : drop 7 cs ≡ cells 2 0 kids
   pub lines-are : list-cells F S cs ≡ listing F 0 (absolute S kids)
-  pub size : length cs ≡ suc (nodes kids) * 7
+  pub size : length cs ≡ suc (nodes kids) * cell-width
 
 pub begun : (T F S : ℕ) (cs : List ℕ) → S ≤ 4294967295 → bad-cell T S false cs [] ≡ none → Begun F S cs
 unfolding cells relative list-cells lines kids-of absolute nodes
@@ -66,7 +66,7 @@ module _ (F S : ℕ) (cs : List ℕ) (b : Begun F S cs) where
   abbrev opens : List Open
   opens = push 0 S 0 (b .kids) []
 
-  cells-left : drop (1 * 7) cs ≡ left-cells (1 + 1) opens
+  cells-left : drop (1 * cell-width) cs ≡ left-cells (1 + 1) opens
   unfolding left-cells
   cells-left = b .cells-are ∙ sym (push-cells 2 0 S 0 (b .kids) [] (b .fits) ∙ append-nil (cells 2 0 (b .kids)))
 
@@ -77,10 +77,10 @@ module _ (F S : ℕ) (cs : List ℕ) (b : Begun F S cs) where
   all-fit : All-fit opens
   all-fit = push-fits 0 S 0 (b .kids) [] (b .fits) tt
 
-  pub line-count : (n : ℕ) → n * 7 ≡ length cs → length (list-cells F S cs) ≡ lines-from F cs 1 (n - 1) * 4
+  pub line-count : (n : ℕ) → n * cell-width ≡ length cs → length (list-cells F S cs) ≡ lines-from F cs 1 (n - 1) * 4
   line-count n e = ap length lines-left ∙ counted F cs (n - 1) 1 opens cells-left all-fit (omega (arith, b .size))
 
-  pub first-room : getD cs 4 0 * 7 ≤ length cs
+  pub first-room : getD cs 4 0 * cell-width ≤ length cs
   first-room =
       let l = link-room (b .kids) (getD cs 4 0) 2 (suc (nodes (b .kids))) (b .first-is) (omega arith) in
       omega (arith, l, b .size)

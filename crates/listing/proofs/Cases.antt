@@ -6,6 +6,7 @@ use mathlib.Core.Option.{none, some}
 use Prim.Native.Nat.{ℕ, _+_, _-_, _*_, _/_, _≤_, _<_}
 use native.Mathlib.Omega.{arith}
 use lib.ListN.{length}
+use Rattle.tree.specs.Cells.{cell-width}
 use Rattle.words.specs.Outcome.{accepted, refused, Result}
 use Rattle.words.specs.Words.{front}
 use Rattle.tree.specs.Calls.{list-cells}
@@ -15,7 +16,7 @@ use Rattle.rules.proofs.CallLaws.{types-refused, work-refused, cell-refused, no
 use Rattle.listing.specs.Steps.{lines-from, Lent}
 use Rattle.listing.proofs.Begins.{Begun, begun, line-count}
 
-items-are : (cs : List ℕ) → items cs [] ≡ length cs / 7
+items-are : (cs : List ℕ) → items cs [] ≡ length cs / cell-width
 unfolding items
 items-are cs = omega arith
 
@@ -28,16 +29,16 @@ module _ (T F S : ℕ) (cs : List ℕ) (work : ℕ) (out : List ℕ) where
   many-types h = sym (list-refused T cs [] work out 1 0 F S (λ o. types-refused T S false cs [] work o h))
 
   module _ (types : T ≤ 65536) where
-    pub little-work : work / 96 < length cs / 7 + 1 → Refuses T F S cs work out 11 0
+    pub little-work : work / 96 < length cs / cell-width + 1 → Refuses T F S cs work out 11 0
     little-work h = sym (list-refused T cs [] work out 11 0 F S (λ o. work-refused T S false cs [] work o types (omega (arith, items-are cs))))
 
-    pub bad-at : (c : ℕ) → length cs / 7 + 1 ≤ work / 96 → bad-cell T S false cs [] ≡ some c → Refuses T F S cs work out 15 c
+    pub bad-at : (c : ℕ) → length cs / cell-width + 1 ≤ work / 96 → bad-cell T S false cs [] ≡ some c → Refuses T F S cs work out 15 c
     bad-at c lent h = sym (list-refused T cs [] work out 15 c F S (λ o. cell-refused T S false cs [] work o types (omega (arith, items-are cs)) c h))
 
 -- None of 1, 11 and 15 applies.
 pub record Passed (T F S : ℕ) (cs : List ℕ) (work : ℕ) (out : List ℕ) : Type 0 where
   pub types : T ≤ 65536
-  pub lent : length cs / 7 + 1 ≤ work / 96
+  pub lent : length cs / cell-width + 1 ≤ work / 96
   pub fits : S ≤ 4294967295
   pub ok : bad-cell T S false cs [] ≡ none
 
@@ -48,12 +49,12 @@ module _ {T F S : ℕ} {cs : List ℕ} {work : ℕ} {out : List ℕ} (p : Passed
   enough-work : 96 * items cs [] + 96 ≤ work
   enough-work = omega (arith, items-are cs, p .lent)
 
-  pub whole-cells : length cs / 7 * 7 ≡ length cs
+  pub whole-cells : length cs / cell-width * cell-width ≡ length cs
   whole-cells = omega (arith, begins .size)
 
-  module _ (count : ℕ) (counts : count ≡ lines-from F cs 1 (length cs / 7 - 1)) where
+  module _ (count : ℕ) (counts : count ≡ lines-from F cs 1 (length cs / cell-width - 1)) where
     size-is : length (list-cells F S cs) ≡ count * 4
-    size-is = line-count F S cs begins (length cs / 7) whole-cells ∙ ap (λ (k : ℕ). k * 4) (sym counts)
+    size-is = line-count F S cs begins (length cs / cell-width) whole-cells ∙ ap (λ (k : ℕ). k * 4) (sym counts)
 
     pub little-room : length out / 4 < count → Refuses T F S cs work out 14 0
     unfolding list-call
@@ -64,7 +65,7 @@ module _ {T F S : ℕ} {cs : List ℕ} {work : ℕ} {out : List ℕ} (p : Passed
         )
 
     module _ (room : count ≤ length out / 4) where
-      pub all-lent : (size : ℕ) → length cs / 7 * 2 ≤ size → Lent F S cs (length cs / 7) size (length out)
+      pub all-lent : (size : ℕ) → length cs / cell-width * 2 ≤ size → Lent F S cs (length cs / cell-width) size (length out)
       all-lent size h = record {
         types = T;
         fits = p .fits;

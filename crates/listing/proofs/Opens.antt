@@ -13,7 +13,7 @@ use lib.ListN.{length, getD, drop, length-append, length-drop}
 use lib.Seq.{getD-drop, drop-drop}
 use Rattle.records.specs.Forest.{line, depth-below}
 use Rattle.tree.specs.Trees.{Trees, nil, tree, part, nodes, siblings}
-use Rattle.tree.specs.Cells.{cell, absolute, packed, unless-none, kind, id-word, cells}
+use Rattle.tree.specs.Cells.{cell, absolute, packed, unless-none, kind, id-word, cells, cell-width, cell-kind, cell-id, cell-position, cell-length, cell-first, cell-next}
 use Rattle.tree.specs.Listing.{node-line, node-below, listing}
 use Rattle.tree.proofs.CellLaws.{length-cells}
 use Rattle.listing.specs.Steps.{is-listed, own-line, lines-from}
@@ -90,30 +90,30 @@ after-fits F o os a =
 
 -- The words of the first cell that is left, cell i counted from 0.
 pub record Spelt (cs : List ℕ) (i : ℕ) (o : Open) : Type 0 where
-  pub kind-is : getD cs (i * 7) 0 ≡ kind (o .type)
-  pub id-is : getD cs (i * 7 + 1) 0 ≡ id-word (o .type)
-  pub position-is : getD cs (i * 7 + 2) 0 ≡ o .start
-  pub len-is : getD cs (i * 7 + 3) 0 ≡ o .len
-  pub first-is : getD cs (i * 7 + 4) 0 ≡ unless-none (o .kids) (suc (i + 1))
-  pub next-is : getD cs (i * 7 + 6) 0 ≡ unless-none (o .later) (i + 1 + suc (nodes (o .kids)))
+  pub kind-is : cell-kind cs i ≡ kind (o .type)
+  pub id-is : cell-id cs i ≡ id-word (o .type)
+  pub position-is : cell-position cs i ≡ o .start
+  pub len-is : cell-length cs i ≡ o .len
+  pub first-is : cell-first cs i ≡ unless-none (o .kids) (suc (i + 1))
+  pub next-is : cell-next cs i ≡ unless-none (o .later) (i + 1 + suc (nodes (o .kids)))
 
-module _ (cs : List ℕ) (i : ℕ) (o : Open) (os : List Open) (h : drop (i * 7) cs ≡ left-cells (i + 1) (o ∷ os)) where
+module _ (cs : List ℕ) (i : ℕ) (o : Open) (os : List Open) (h : drop (i * cell-width) cs ≡ left-cells (i + 1) (o ∷ os)) where
   abbrev inside : List ℕ
   inside = cells (suc (i + 1)) (o .words) (o .kids) ++ cells (i + 1 + suc (nodes (o .kids))) (o .words + length (packed (o .kids))) (o .later)
 
   abbrev own : List ℕ
   own = cell (kind (o .type)) (id-word (o .type)) (o .start) (o .len) (unless-none (o .kids) (suc (i + 1))) (siblings (o .kids)) (unless-none (o .later) (i + 1 + suc (nodes (o .kids))))
 
-  opened : drop (i * 7) cs ≡ own ++ (inside ++ left-cells (i + 1 + nodes (trees-of o)) os)
+  opened : drop (i * cell-width) cs ≡ own ++ (inside ++ left-cells (i + 1 + nodes (trees-of o)) os)
   unfolding left-cells cells
   opened = h
 
-  word : (k x : ℕ) → getD (own ++ (inside ++ left-cells (i + 1 + nodes (trees-of o)) os)) k 0 ≡ x → getD cs (i * 7 + k) 0 ≡ x
-  word k x e = sym (getD-drop (i * 7) cs k 0) ∙ (ap (λ (l : List ℕ). getD l k 0) opened ∙ e)
+  word : (k x : ℕ) → getD (own ++ (inside ++ left-cells (i + 1 + nodes (trees-of o)) os)) k 0 ≡ x → getD cs (i * cell-width + k) 0 ≡ x
+  word k x e = sym (getD-drop (i * cell-width) cs k 0) ∙ (ap (λ (l : List ℕ). getD l k 0) opened ∙ e)
 
   pub spelt : Spelt cs i o
   spelt = record {
-    kind-is = ap (λ (k : ℕ). getD cs k 0) (sym (add-zero (i * 7))) ∙ word 0 (kind (o .type)) refl;
+    kind-is = ap (λ (k : ℕ). getD cs k 0) (sym (add-zero (i * cell-width))) ∙ word 0 (kind (o .type)) refl;
     id-is = word 1 (id-word (o .type)) refl;
     position-is = word 2 (o .start) refl;
     len-is = word 3 (o .len) refl;
@@ -122,22 +122,22 @@ module _ (cs : List ℕ) (i : ℕ) (o : Open) (os : List Open) (h : drop (i * 7)
   }
 
   -- there are as many cells as the trees have
-  pub room : (i + nodes (trees-of o)) * 7 ≤ length cs
+  pub room : (i + nodes (trees-of o)) * cell-width ≤ length cs
   unfolding left-cells nodes
   room =
       let ts = trees-of o in
       let e = ap length h ∙ length-append (cells (i + 1) (o .words) ts) (left-cells (i + 1 + nodes ts) os) in
-      omega (arith, e, length-cells (i + 1) (o .words) ts, length-drop (i * 7) cs)
+      omega (arith, e, length-cells (i + 1) (o .words) ts, length-drop (i * cell-width) cs)
 
   -- what is left after it
-  pub cells-next : (F : ℕ) → All-fit (o ∷ os) → drop ((i + 1) * 7) cs ≡ left-cells (i + 1 + 1) (after F o os)
+  pub cells-next : (F : ℕ) → All-fit (o ∷ os) → drop ((i + 1) * cell-width) cs ≡ left-cells (i + 1 + 1) (after F o os)
   unfolding nodes
   cells-next F a =
       let k = o .kids in
       let w = o .words in
       let w′ = o .words + length (packed k) in
-      let d : drop ((i + 1) * 7) cs ≡ inside ++ left-cells (i + 1 + nodes (trees-of o)) os =
-      (let e : (i + 1) * 7 ≡ i * 7 + 7 = omega arith in ap (λ (n : ℕ). drop n cs) e) ∙ (sym (drop-drop 7 (i * 7) cs) ∙ ap (drop 7) opened) in
+      let d : drop ((i + 1) * cell-width) cs ≡ inside ++ left-cells (i + 1 + nodes (trees-of o)) os =
+      (let e : (i + 1) * cell-width ≡ i * cell-width + cell-width = omega arith in ap (λ (n : ℕ). drop n cs) e) ∙ (sym (drop-drop 7 (i * cell-width) cs) ∙ ap (drop 7) opened) in
       let n₁ : i + 1 + suc (nodes k) ≡ i + 1 + 1 + nodes k = omega arith in
       let n₂ : i + 1 + nodes (trees-of o) ≡ i + 1 + 1 + nodes k + nodes (o .later) = omega arith in
       let n₃ : suc (i + 1) ≡ i + 1 + 1 = omega arith in
@@ -150,8 +150,8 @@ module _ (cs : List ℕ) (i : ℕ) (o : Open) (os : List Open) (h : drop (i * 7)
       ∙ (ap (λ (z : ℕ). cells (i + 1 + 1) w k ++ (cells (i + 1 + 1 + nodes k) w′ (o .later) ++ left-cells z os)) n₂ ∙ sym b)))
 
 -- the line of a cell, by its type
-own-is : (F : ℕ) (cs : List ℕ) (i q d : ℕ) (t : Option ℕ) (s l : ℕ) → getD cs (i * 7) 0 ≡ kind t → getD cs (i * 7 + 1) 0 ≡ id-word t
-    → getD cs (i * 7 + 2) 0 ≡ s → getD cs (i * 7 + 3) 0 ≡ l → own-line F cs i q d ≡ node-line F d t (q + s) (q + s + l)
+own-is : (F : ℕ) (cs : List ℕ) (i q d : ℕ) (t : Option ℕ) (s l : ℕ) → cell-kind cs i ≡ kind t → cell-id cs i ≡ id-word t
+    → cell-position cs i ≡ s → cell-length cs i ≡ l → own-line F cs i q d ≡ node-line F d t (q + s) (q + s + l)
 unfolding own-line is-listed node-line kind id-word line
 own-is F cs i q d none s l a b c e = rw a refl
 own-is F cs i q d (some x) s l a b c e = rw (a, b, c, e) (go (ltb x F))
@@ -161,7 +161,7 @@ own-is F cs i q d (some x) s l a b c e = rw (a, b, c, e) (go (ltb x F))
     go false = refl
 
 -- and the depth below it
-pub below-is : (F : ℕ) (cs : List ℕ) (i d : ℕ) (t : Option ℕ) → getD cs (i * 7) 0 ≡ kind t → getD cs (i * 7 + 1) 0 ≡ id-word t
+pub below-is : (F : ℕ) (cs : List ℕ) (i d : ℕ) (t : Option ℕ) → cell-kind cs i ≡ kind t → cell-id cs i ≡ id-word t
     → cond (is-listed F cs i) (d + 1) d ≡ node-below F d t
 unfolding is-listed node-below kind id-word depth-below
 below-is F cs i d none a b = rw a refl
@@ -203,7 +203,7 @@ own-length : (F : ℕ) (cs : List ℕ) (i q d : ℕ) → length (own-line F cs i
 unfolding own-line
 own-length F cs i q d = go (is-listed F cs i)
   where
-    go : (y : Bool) → length (cond y (d ∷ getD cs (i * 7 + 1) 0 ∷ (q + getD cs (i * 7 + 2) 0) ∷ (q + getD cs (i * 7 + 2) 0 + getD cs (i * 7 + 3) 0) ∷ []) []) ≡ cond y 4 0
+    go : (y : Bool) → length (cond y (d ∷ cell-id cs i ∷ (q + cell-position cs i) ∷ (q + cell-position cs i + cell-length cs i) ∷ []) []) ≡ cond y 4 0
     go true = refl
     go false = refl
 
@@ -214,16 +214,16 @@ none-left c [] h = refl
 none-left c (o ∷ os) h = absurd (omega arith)
 
 -- how many lines there are
-pub counted : (F : ℕ) (cs : List ℕ) (left i : ℕ) (os : List Open) → drop (i * 7) cs ≡ left-cells (i + 1) os → All-fit os → length cs ≡ (i + left) * 7
+pub counted : (F : ℕ) (cs : List ℕ) (left i : ℕ) (os : List Open) → drop (i * cell-width) cs ≡ left-cells (i + 1) os → All-fit os → length cs ≡ (i + left) * cell-width
     → length (left-lines F os) ≡ lines-from F cs i left * 4
 unfolding lines-from left-cells left-lines
 counted F cs zero i os h a e =
-    let n : length (left-cells (i + 1) os) ≡ 0 = sym (ap length h) ∙ omega (arith, length-drop (i * 7) cs) in
+    let n : length (left-cells (i + 1) os) ≡ 0 = sym (ap length h) ∙ omega (arith, length-drop (i * cell-width) cs) in
     ap (λ (l : List Open). length (left-lines F l)) (none-left (i + 1) os n) ∙ nothing F
   where
     nothing : (F : ℕ) → length (left-lines F []) ≡ 0
     nothing F = refl
-counted F cs (suc left) i [] h a e = absurd (omega (arith, e, ap length h, length-drop (i * 7) cs))
+counted F cs (suc left) i [] h a e = absurd (omega (arith, e, ap length h, length-drop (i * cell-width) cs))
 counted F cs (suc left) i (o ∷ os) h a e =
     let s = spelt cs i o os h in
     let x = own-line F cs i (o .base) (o .depth) in

@@ -11,7 +11,7 @@ use borrow.Author.Tests.{eq-eqb, ne-eqb}
 use lib.ListN.{length, getD, drop, set, length-set, length-drop}
 use lib.Seq.{getD-set-same, getD-set-other}
 use Rattle.tree.specs.Trees.{Trees, nil, tree, part, nodes}
-use Rattle.tree.specs.Cells.{packed, unless-none}
+use Rattle.tree.specs.Cells.{packed, unless-none, cell-width, cell-position, cell-length, cell-first, cell-next}
 use Rattle.tree.specs.Listing.{node-below}
 use Rattle.listing.specs.Steps.{own-line, noted, links-noted}
 use Rattle.listing.proofs.Opens.{Open, trees-of, Fits, All-fit, left-cells, left-lines, push, after-later, after, after-fits, Spelt, spelt, room, cells-next, below-is, below-small, lines-next, none-left}
@@ -74,7 +74,7 @@ noted-push held i w q d (tree t s l kids later) os x e r b m f h = rw (noted-som
 -- The pass before cell i: `rest` are the lines still to be written.
 pub record State (F : ℕ) (cs held : List ℕ) (i : ℕ) (rest : List ℕ) : Type 0 where
   pub opens : List Open
-  pub cells-are : drop (i * 7) cs ≡ left-cells (i + 1) opens
+  pub cells-are : drop (i * cell-width) cs ≡ left-cells (i + 1) opens
   pub lines-are : rest ≡ left-lines F opens
   pub fit : All-fit opens
   pub notes : Noted held i opens
@@ -83,12 +83,12 @@ pub record State (F : ℕ) (cs held : List ℕ) (i : ℕ) (rest : List ℕ) : Ty
 pub record Turn (F : ℕ) (cs held : List ℕ) (i : ℕ) (rest : List ℕ) : Type 0 where
   pub later : List ℕ
   pub splits : rest ≡ own-line F cs i (getD held (i * 2) 0) (getD held (i * 2 + 1) 0) ++ later
-  pub ends : getD held (i * 2) 0 + getD cs (i * 7 + 2) 0 + getD cs (i * 7 + 3) 0 ≤ 4294967295
+  pub ends : getD held (i * 2) 0 + cell-position cs i + cell-length cs i ≤ 4294967295
   pub shallow : getD held (i * 2 + 1) 0 < 4294967295
-  pub first-room : getD cs (i * 7 + 4) 0 * 7 ≤ length cs
-  pub next-room : getD cs (i * 7 + 6) 0 * 7 ≤ length cs
-  pub goes-on : getD cs (i * 7 + 4) 0 * 2 ≤ length held → getD cs (i * 7 + 6) 0 * 2 ≤ length held → getD cs (i * 7 + 4) 0 ≤ 4294967295
-      → getD cs (i * 7 + 6) 0 ≤ 4294967295
+  pub first-room : cell-first cs i * cell-width ≤ length cs
+  pub next-room : cell-next cs i * cell-width ≤ length cs
+  pub goes-on : cell-first cs i * 2 ≤ length held → cell-next cs i * 2 ≤ length held → cell-first cs i ≤ 4294967295
+      → cell-next cs i ≤ 4294967295
       → State F cs (links-noted F cs held i (getD held (i * 2) 0) (getD held (i * 2 + 1) 0)) (i + 1) later
 
 -- a link of trees that have a cell within the first m names a cell within the first m
@@ -98,7 +98,7 @@ link-room nil x c m e h = omega arith
 link-room (tree t s l kids later) x c m e h = omega arith
 link-room (part s l ws later) x c m e h = omega arith
 
-module _ (F : ℕ) (cs held : List ℕ) (i : ℕ) (o : Open) (os : List Open) (h : drop (i * 7) cs ≡ left-cells (i + 1) (o ∷ os)) (a : All-fit (o ∷ os)) (n : Noted held i (o ∷ os)) where
+module _ (F : ℕ) (cs held : List ℕ) (i : ℕ) (o : Open) (os : List Open) (h : drop (i * cell-width) cs ≡ left-cells (i + 1) (o ∷ os)) (a : All-fit (o ∷ os)) (n : Noted held i (o ∷ os)) where
   abbrev words-of : Spelt cs i o
   words-of = spelt cs i o os h
 
@@ -106,16 +106,16 @@ module _ (F : ℕ) (cs held : List ℕ) (i : ℕ) (o : Open) (os : List Open) (h
   unfolding nodes
   sizes = refl
 
-  first-fits : getD cs (i * 7 + 4) 0 * 7 ≤ length cs
+  first-fits : cell-first cs i * cell-width ≤ length cs
   first-fits =
       let m = i + nodes (trees-of o) in
-      let l = link-room (o .kids) (getD cs (i * 7 + 4) 0) (suc (i + 1)) m (words-of .first-is) (omega (arith, sizes)) in
+      let l = link-room (o .kids) (cell-first cs i) (suc (i + 1)) m (words-of .first-is) (omega (arith, sizes)) in
       omega (arith, l, room cs i o os h)
 
-  next-fits : getD cs (i * 7 + 6) 0 * 7 ≤ length cs
+  next-fits : cell-next cs i * cell-width ≤ length cs
   next-fits =
       let m = i + nodes (trees-of o) in
-      let l = link-room (o .later) (getD cs (i * 7 + 6) 0) (i + 1 + suc (nodes (o .kids))) m (words-of .next-is) (omega (arith, sizes)) in
+      let l = link-room (o .later) (cell-next cs i) (i + 1 + suc (nodes (o .kids))) m (words-of .next-is) (omega (arith, sizes)) in
       omega (arith, l, room cs i o os h)
 
   notes-next : (x y : ℕ) → y ≡ unless-none (o .kids) (suc (i + 1)) → x ≡ unless-none (o .later) (i + 1 + suc (nodes (o .kids))) → y * 2 ≤ length held → x * 2 ≤ length held → y ≤ 4294967295 → x ≤ 4294967295
@@ -132,7 +132,7 @@ module _ (F : ℕ) (cs held : List ℕ) (i : ℕ) (o : Open) (os : List Open) (h
       (rw (noted-length held x (o .base) (o .depth)) ry) by (omega (arith, n .deep, below-small F (o .depth) (o .type))) (a .0 .inner) mid
 
   links-are : links-noted F cs held i (getD held (i * 2) 0) (getD held (i * 2 + 1) 0)
-      ≡ noted (noted held (getD cs (i * 7 + 6) 0) (o .base) (o .depth)) (getD cs (i * 7 + 4) 0) (o .base + o .start) (node-below F (o .depth) (o .type))
+      ≡ noted (noted held (cell-next cs i) (o .base) (o .depth)) (cell-first cs i) (o .base + o .start) (node-below F (o .depth) (o .type))
   unfolding links-noted
   links-are = rw (n .base-at, n .depth-at, words-of .position-is, below-is F cs i (o .depth) (o .type) (words-of .kind-is) (words-of .id-is))
 
@@ -150,24 +150,24 @@ module _ (F : ℕ) (cs held : List ℕ) (i : ℕ) (o : Open) (os : List Open) (h
           cells-are = cells-next cs i o os h F a;
           lines-are = refl;
           fit = after-fits F o os a;
-          notes = notes-next (getD cs (i * 7 + 6) 0) (getD cs (i * 7 + 4) 0) (words-of .first-is) (words-of .next-is) ry rx by bx;
+          notes = notes-next (cell-next cs i) (cell-first cs i) (words-of .first-is) (words-of .next-is) ry rx by bx;
         });
   }
 
-nothing-left : (cs : List ℕ) (i : ℕ) → i * 7 < length cs → drop (i * 7) cs ≡ left-cells (i + 1) [] → ⊥
+nothing-left : (cs : List ℕ) (i : ℕ) → i * cell-width < length cs → drop (i * cell-width) cs ≡ left-cells (i + 1) [] → ⊥
 unfolding left-cells
-nothing-left cs i l h = omega (arith, ap length h, length-drop (i * 7) cs)
+nothing-left cs i l h = omega (arith, ap length h, length-drop (i * cell-width) cs)
 
-pub turn : (F : ℕ) (cs held : List ℕ) (i : ℕ) (rest : List ℕ) → i * 7 < length cs → State F cs held i rest → Turn F cs held i rest
+pub turn : (F : ℕ) (cs held : List ℕ) (i : ℕ) (rest : List ℕ) → i * cell-width < length cs → State F cs held i rest → Turn F cs held i rest
 turn F cs held i rest l s = rw (s .lines-are) (go (s .opens) (s .cells-are) (s .fit) (s .notes))
   where
-    go : (os : List Open) → drop (i * 7) cs ≡ left-cells (i + 1) os → All-fit os → Noted held i os → Turn F cs held i (left-lines F os)
+    go : (os : List Open) → drop (i * cell-width) cs ≡ left-cells (i + 1) os → All-fit os → Noted held i os → Turn F cs held i (left-lines F os)
     go [] h a n = absurd (nothing-left cs i l h)
     go (o ∷ os) h a n = turn-of F cs held i o os h a n
 
 -- at the end nothing is left
-pub state-end : (F : ℕ) (cs held : List ℕ) (i : ℕ) (rest : List ℕ) → length cs ≤ i * 7 → State F cs held i rest → rest ≡ []
+pub state-end : (F : ℕ) (cs held : List ℕ) (i : ℕ) (rest : List ℕ) → length cs ≤ i * cell-width → State F cs held i rest → rest ≡ []
 unfolding left-lines
 state-end F cs held i rest l s =
-    let e : length (left-cells (i + 1) (s .opens)) ≡ 0 = sym (ap length (s .cells-are)) ∙ omega (arith, length-drop (i * 7) cs) in
+    let e : length (left-cells (i + 1) (s .opens)) ≡ 0 = sym (ap length (s .cells-are)) ∙ omega (arith, length-drop (i * cell-width) cs) in
     s .lines-are ∙ ap (left-lines F) (none-left (i + 1) (s .opens) e)

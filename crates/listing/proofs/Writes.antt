@@ -6,6 +6,7 @@ use Prim.Native.Nat.{ℕ, suc, _+_, _-_, _*_, _≤_, _<_}
 use native.Mathlib.Omega.{arith}
 use native.Mathlib.Nat.{add-zero}
 use lib.ListN.{length, getD, take, drop, set, take-append-drop, length-append}
+use Rattle.tree.specs.Cells.{cell-id, cell-position, cell-length, cell-first, cell-next}
 use Rattle.words.specs.Words.{put, front}
 use Rattle.words.proofs.Stores.{put-four}
 use Rattle.words.proofs.Runs.{Fronted, fronted-none, fronted-length, fronted-next, fronted-all}
@@ -32,7 +33,7 @@ module _ (F : ℕ) (cs : List ℕ) (i n : ℕ) where
 
 -- the line of one cell
 module _ (F : ℕ) (cs : List ℕ) (i q d : ℕ) where
-  pub own-some : is-listed F cs i ≡ true → own-line F cs i q d ≡ d ∷ getD cs (i * 7 + 1) 0 ∷ (q + getD cs (i * 7 + 2) 0) ∷ (q + getD cs (i * 7 + 2) 0 + getD cs (i * 7 + 3) 0) ∷ []
+  pub own-some : is-listed F cs i ≡ true → own-line F cs i q d ≡ d ∷ cell-id cs i ∷ (q + cell-position cs i) ∷ (q + cell-position cs i + cell-length cs i) ∷ []
   unfolding own-line
   own-some h = rw h
 
@@ -47,10 +48,10 @@ module _ (F : ℕ) (cs : List ℕ) (i q d : ℕ) where
   no-words h = ap length (own-none h)
 
   pub put-some : (out : List ℕ) (at : ℕ) → at + 4 ≤ length out → is-listed F cs i ≡ true
-      → set (set (set (set out at d) (at + 1) (getD cs (i * 7 + 1) 0)) (at + 2) (q + getD cs (i * 7 + 2) 0)) (at + 3) (q + getD cs (i * 7 + 2) 0 + getD cs (i * 7 + 3) 0)
+      → set (set (set (set out at d) (at + 1) (cell-id cs i)) (at + 2) (q + cell-position cs i)) (at + 3) (q + cell-position cs i + cell-length cs i)
       ≡ put out at (own-line F cs i q d)
   put-some out at l h =
-      put-four out at d (getD cs (i * 7 + 1) 0) (q + getD cs (i * 7 + 2) 0) (q + getD cs (i * 7 + 2) 0 + getD cs (i * 7 + 3) 0) l
+      put-four out at d (cell-id cs i) (q + cell-position cs i) (q + cell-position cs i + cell-length cs i) l
       ∙ ap (put out at) (sym (own-some h))
 
   pub put-none : (out : List ℕ) (at : ℕ) → is-listed F cs i ≡ false → out ≡ put out at (own-line F cs i q d)
@@ -88,15 +89,15 @@ pub record Found (F S : ℕ) (cs out₀ out held : List ℕ) (size at i q d : �
   pub notes-fit : i * 2 + 1 < length held
   pub ready : Ready cs i q d
   pub line-fits : at + length (own-line F cs i q d) ≤ length out
-  pub links-fit : (getD cs (i * 7 + 4) 0 * 2 ≤ length held) × (getD cs (i * 7 + 6) 0 * 2 ≤ length held)
+  pub links-fit : (cell-first cs i * 2 ≤ length held) × (cell-next cs i * 2 ≤ length held)
   pub goes-on : (out′ held′ : List ℕ) (at′ : ℕ) → at′ ≡ at + length (own-line F cs i q d) → out′ ≡ put out at (own-line F cs i q d) → held′ ≡ links-noted F cs held i q d
-      → getD cs (i * 7 + 4) 0 ≤ 4294967295 → getD cs (i * 7 + 6) 0 ≤ 4294967295 → Pass F S cs out₀ out′ held′ size at′ (i + 1)
+      → cell-first cs i ≤ 4294967295 → cell-next cs i ≤ 4294967295 → Pass F S cs out₀ out′ held′ size at′ (i + 1)
 
 links-length : (F : ℕ) (cs held : List ℕ) (i q d : ℕ) → length (links-noted F cs held i q d) ≡ length held
 unfolding links-noted
 links-length F cs held i q d =
-    noted-length (noted held (getD cs (i * 7 + 6) 0) q d) (getD cs (i * 7 + 4) 0) (q + getD cs (i * 7 + 2) 0) (cond (is-listed F cs i) (d + 1) d)
-    ∙ noted-length held (getD cs (i * 7 + 6) 0) q d
+    noted-length (noted held (cell-next cs i) q d) (cell-first cs i) (q + cell-position cs i) (cond (is-listed F cs i) (d + 1) d)
+    ∙ noted-length held (cell-next cs i) q d
 
 module _ {F S : ℕ} {cs : List ℕ} {n size : ℕ} {out₀ out held : List ℕ} {at i : ℕ} (lent : Lent F S cs n size (length out₀)) (p : Pass F S cs out₀ out held size at i) where
   -- what is written and what is still to be written have room
@@ -119,8 +120,8 @@ module _ {F S : ℕ} {cs : List ℕ} {n size : ℕ} {out₀ out held : List ℕ}
       let d = getD held (i * 2 + 1) 0 in
       let line = own-line F cs i q d in
       let e = ap length (t .splits) ∙ length-append line (t .later) in
-      let first : getD cs (i * 7 + 4) 0 * 2 ≤ length held = omega (arith, t .first-room, p .sized, lent .work-fits, lent .whole) in
-      let next : getD cs (i * 7 + 6) 0 * 2 ≤ length held = omega (arith, t .next-room, p .sized, lent .work-fits, lent .whole) in
+      let first : cell-first cs i * 2 ≤ length held = omega (arith, t .first-room, p .sized, lent .work-fits, lent .whole) in
+      let next : cell-next cs i * 2 ≤ length held = omega (arith, t .next-room, p .sized, lent .work-fits, lent .whole) in
       record {
         notes-fit = omega (arith, p .sized, lent .work-fits);
         ready = record { inside = omega (arith, lent .whole); ends = t .ends; shallow = t .shallow };

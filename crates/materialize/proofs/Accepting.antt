@@ -13,7 +13,7 @@ use lib.Dec.{ltb, eqb}
 use lib.ListN.{length, getD, take, drop}
 use Rattle.part.proofs.Faults.{part-sound}
 use Rattle.tree.specs.Trees.{nodes}
-use Rattle.tree.specs.Cells.{decode, decode-from, packed, absolute, cells, tree-cells}
+use Rattle.tree.specs.Cells.{decode, decode-from, packed, absolute, cells, tree-cells, cell-width, cell-kind, cell-length}
 use Rattle.tree.specs.Calls.{materialise-cells}
 use Rattle.tree.specs.Materialise.{materialise}
 use Rattle.rules.specs.Cell.{Cell, cells-of}
@@ -90,7 +90,7 @@ module _ (T : ℕ) (ws : List ℕ) (n : ℕ) where
 
 lowest-none : (T : ℕ) (cs ws : List ℕ) → bad-cell T 0 true cs ws ≡ none → lowest-from T true ws (length (cells-of cs)) 1 0 (top-named 0 ∷ []) (cells-of cs) ≡ 0
 unfolding bad-cell
-lowest-none T cs ws h = outer (eqb (length cs) 0 || not (eqb (length cs % 7) 0)) _ h
+lowest-none T cs ws h = outer (eqb (length cs) 0 || not (eqb (length cs % cell-width) 0)) _ h
   where
     inner : (n : ℕ) → _≡_ {A = Option ℕ} (elim n [ zero ↦ none | suc c ↦ some (suc c) ]) none → n ≡ 0
     inner zero h = refl
@@ -101,16 +101,16 @@ lowest-none T cs ws h = outer (eqb (length cs) 0 || not (eqb (length cs % 7) 0))
     outer false n h = inner n h
 
 module _ (T : ℕ) (cs ws : List ℕ) (ok : bad-cell T 0 true cs ws ≡ none) where
-  fine-at : (i : ℕ) → i * 7 + 7 ≤ length cs → Fine T ws (length (cells-of cs)) (cell-at cs i)
+  fine-at : (i : ℕ) → i * cell-width + cell-width ≤ length cs → Fine T ws (length (cells-of cs)) (cell-at cs i)
   fine-at i l = all-fine T ws (length (cells-of cs)) 1 0 (top-named 0 ∷ []) (cells-of cs) (omega arith) (lowest-none T cs ws ok) i (cell-at cs i) (drop (suc i) (cells-of cs)) (cells-drop i cs l)
 
-  pub typed-at : (i : ℕ) → i * 7 + 7 ≤ length cs → (getD cs (i * 7) 0 ≡ 2 → ⊥) → Typed cs i
+  pub typed-at : (i : ℕ) → i * cell-width + cell-width ≤ length cs → (cell-kind cs i ≡ 2 → ⊥) → Typed cs i
   typed-at i l = fine-at i l .typed
 
-  pub parts-fit : (i : ℕ) → i * 7 + 7 ≤ length cs → getD cs (i * 7) 0 ≡ 2 → Part-fits cs ws i
+  pub parts-fit : (i : ℕ) → i * cell-width + cell-width ≤ length cs → cell-kind cs i ≡ 2 → Part-fits cs ws i
   parts-fit i l e =
       let f = fine-at i l in
-      let r = part-rules (part-at cs ws i) T (getD cs (i * 7 + 3) 0) (f .kept e) in
+      let r = part-rules (part-at cs ws i) T (cell-length cs i) (f .kept e) in
       record {
         inside = f .inside e;
         starts = λ j m. omega (arith, r .ends j (omega arith), (part-sound (part-at cs ws i) T (r .counts) (r .passes) j (omega arith)) .ordered, f .ends e);
@@ -118,15 +118,15 @@ module _ (T : ℕ) (cs ws : List ℕ) (ok : bad-cell T 0 true cs ws ≡ none) wh
 
   whole : ahead cs ws 0 ≡ decode ws cs
   unfolding decode
-  whole = let e : length cs / 7 - 0 ≡ length cs / 7 = omega arith in ap (λ (k : ℕ). decode-from ws k cs) e
+  whole = let e : length cs / cell-width - 0 ≡ length cs / cell-width = omega arith in ap (λ (k : ℕ). decode-from ws k cs) e
 
-  pub total-is : cells-before cs (length cs / 7) ≡ nodes (materialise (handed-in cs ws))
+  pub total-is : cells-before cs (length cs / cell-width) ≡ nodes (materialise (handed-in cs ws))
   unfolding handed-in
   total-is =
       counted-all cs ws parts-fit ∙ ap (λ x. nodes (unpacked x)) whole
       ∙ ap nodes (sym (materialised 0 (decode ws cs))) ∙ nodes-relative 0 (materialise (absolute 0 (decode ws cs)))
 
-  pub total-few : Short ws → cells-before cs (length cs / 7) ≤ items cs ws
+  pub total-few : Short ws → cells-before cs (length cs / cell-width) ≤ items cs ws
   unfolding items
   total-few short =
       let a = accepted-decode T 0 true ws short (omega arith) cs ok in

@@ -12,7 +12,7 @@ use Rattle.words.specs.Outcome.{accepted, refused}
 use Rattle.words.specs.Words.{front}
 use Rattle.tree.specs.Trees.{nodes}
 use Rattle.tree.specs.Materialise.{materialise}
-use Rattle.tree.specs.Cells.{cells}
+use Rattle.tree.specs.Cells.{cells, cell-width}
 use Rattle.rules.specs.Lowest.{bad-cell}
 use Rattle.rules.specs.Calls.{items, result-room, handed-in, materialise-call}
 use Rattle.rules.proofs.CallLaws.{types-refused, work-refused, cell-refused, not-refused, unnumbered-cells, few-cells, materialise-refused, materialise-writes}
@@ -27,7 +27,7 @@ unfolding materialise-call
 call-refused T cs ws work out types lent ok r =
     rw (not-refused T 0 true cs ws work (result-room (nodes (materialise (handed-in cs ws))) 0 (length out) 0) types lent ok, r)
 
-cells-few : (cs ws : List ℕ) → length cs / 7 ≤ items cs ws
+cells-few : (cs ws : List ℕ) → length cs / cell-width ≤ items cs ws
 unfolding items
 cells-few cs ws = omega arith
 
@@ -46,7 +46,7 @@ module _ (T : ℕ) (cs ws : List ℕ) (work : ℕ) (out : List ℕ) where
       pub refuses-cell : (c : ℕ) → bad-cell T 0 true cs ws ≡ some c → record { outcome = refused 15 c; outputs = out ∷ [] } ≡ materialise-call T cs ws work out
       refuses-cell c h = sym (materialise-refused T cs ws work out 15 c (λ o. cell-refused T 0 true cs ws work o types lent c h))
 
-      module _ (ok : bad-cell T 0 true cs ws ≡ none) (total : ℕ) (total-here : total ≡ cells-before cs (length cs / 7)) where
+      module _ (ok : bad-cell T 0 true cs ws ≡ none) (total : ℕ) (total-here : total ≡ cells-before cs (length cs / cell-width)) where
         n-is : total ≡ nodes (materialise (handed-in cs ws))
         n-is = total-here ∙ total-is T cs ws ok
 
@@ -54,16 +54,16 @@ module _ (T : ℕ) (cs ws : List ℕ) (work : ℕ) (out : List ℕ) where
         refuses-many h =
             sym (call-refused T cs ws work out types lent ok (unnumbered-cells (nodes (materialise (handed-in cs ws))) 0 (length out) 0 (omega (arith, n-is))))
 
-        pub refuses-room : total ≤ 4294967295 → length out / 7 < total → record { outcome = refused 12 0; outputs = out ∷ [] } ≡ materialise-call T cs ws work out
+        pub refuses-room : total ≤ 4294967295 → length out / cell-width < total → record { outcome = refused 12 0; outputs = out ∷ [] } ≡ materialise-call T cs ws work out
         refuses-room few h =
             sym (call-refused T cs ws work out types lent ok (few-cells (nodes (materialise (handed-in cs ws))) 0 (length out) 0 (omega (arith, n-is)) (omega (arith, n-is))))
 
-        pub accepts : (out₂ : List ℕ) → total ≤ 4294967295 → total ≤ length out / 7 → out₂ ≡ front (cells 1 0 (unpacked (ahead cs ws 0))) out
+        pub accepts : (out₂ : List ℕ) → total ≤ 4294967295 → total ≤ length out / cell-width → out₂ ≡ front (cells 1 0 (unpacked (ahead cs ws 0))) out
             → record { outcome = accepted (total ∷ 0 ∷ []); outputs = out₂ ∷ [] } ≡ materialise-call T cs ws work out
         accepts out₂ few fits e =
             rw (e, written-is T cs ws ok, n-is) (sym (materialise-writes T types cs ws work out ok lent (omega (arith, n-is)) (omega (arith, n-is))))
 
-        pub ready : (held : List ℕ) → length held ≡ work → Short ws → total ≤ 4294967295 → total ≤ length out / 7 → Ready held out cs ws total
+        pub ready : (held : List ℕ) → length held ≡ work → Short ws → total ≤ 4294967295 → total ≤ length out / cell-width → Ready held out cs ws total
         ready held e short few fits =
             let b = total-few T cs ws ok short in
             record {
@@ -74,5 +74,5 @@ module _ (T : ℕ) (cs ws : List ℕ) (work : ℕ) (out : List ℕ) where
               typed = typed-at T cs ws ok;
             }
           where
-            room-deep : cells-before cs (length cs / 7) ≤ items cs ws → total + length cs / 7 ≤ length held
+            room-deep : cells-before cs (length cs / cell-width) ≤ items cs ws → total + length cs / cell-width ≤ length held
             room-deep b = omega (arith, b, total-here, lent, e, cells-few cs ws)

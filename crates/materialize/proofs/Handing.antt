@@ -10,7 +10,7 @@ use native.Mathlib.Nat.{add-zero}
 use lib.ListN.{length, getD, set, length-set}
 use lib.Seq.{getD-set-same, getD-set-other}
 use Rattle.tree.specs.Trees.{Trees, nil, tree, part, _⊕_, nodes, siblings}
-use Rattle.tree.specs.Cells.{relative}
+use Rattle.tree.specs.Cells.{relative, cell-width, id-place, position-place, length-place, first-place, count-place, next-place, cell-position}
 use Rattle.tree.specs.Materialise.{within, beyond}
 use Rattle.tree.proofs.PackLaws.{nodes-⊕}
 use Rattle.tree.proofs.ListingLaws.{⊕-assoc}
@@ -73,12 +73,12 @@ unfolding relative _⊕_
 so-far-tree t s l kids more rest = let e : s - 0 ≡ s = omega arith in ap (λ (k : ℕ). tree t k l (relative s kids) (so-far more rest)) e
 
 -- one root counts its start from q
-module _ (w o : List ℕ) (n c q : ℕ) (done : Trees) (t : Option ℕ) (s l : ℕ) (kids rest : Trees) (m : Made w o n c (done ⊕ tree t s l kids rest)) (wide : n * 7 ≤ length o) where
+module _ (w o : List ℕ) (n c q : ℕ) (done : Trees) (t : Option ℕ) (s l : ℕ) (kids rest : Trees) (m : Made w o n c (done ⊕ tree t s l kids rest)) (wide : n * cell-width ≤ length o) where
   abbrev r : ℕ
   r = c + nodes done
 
   abbrev o′ : List ℕ
-  o′ = set o (r * 7 + 2) (s - q)
+  o′ = set o (r * cell-width + position-place) (s - q)
 
   parts-of : Out o c (suc r) done × Out o r 0 (tree t s l kids rest)
   unfolding leads
@@ -88,8 +88,8 @@ module _ (w o : List ℕ) (n c q : ℕ) (done : Trees) (t : Option ℕ) (s l : �
   unfolding nodes
   root-inside = omega (arith, m .size, nodes-⊕ done (tree t s l kids rest))
 
-  other : (j : ℕ) → (j ≡ r * 7 + 2 → ⊥) → getD o′ j 0 ≡ getD o j 0
-  other j e = getD-set-other o (r * 7 + 2) j (s - q) 0 e
+  other : (j : ℕ) → (j ≡ r * cell-width + position-place → ⊥) → getD o′ j 0 ≡ getD o j 0
+  other j e = getD-set-other o (r * cell-width + position-place) j (s - q) 0 e
 
   pub restarted : Made w o′ n c (done ⊕ tree t (s - q) l kids rest)
   unfolding leads nodes siblings
@@ -100,13 +100,13 @@ module _ (w o : List ℕ) (n c q : ℕ) (done : Trees) (t : Option ℕ) (s l : �
             out-join o′ c 0 done (tree t (s - q) l kids rest)
             (out-frame o o′ c (suc r) done (λ j x y. other j (λ e. omega arith)) (parts-of .0))
             (record {
-              kind-at = other (r * 7) (λ e. omega arith) ∙ h .kind-at;
-              id-at = other (r * 7 + 1) (λ e. omega arith) ∙ h .id-at;
-              start-at = getD-set-same o (r * 7 + 2) (s - q) 0 (omega (arith, root-inside));
-              length-at = other (r * 7 + 3) (λ e. omega arith) ∙ h .length-at;
-              first-at = other (r * 7 + 4) (λ e. omega arith) ∙ h .first-at;
-              count-at = other (r * 7 + 5) (λ e. omega arith) ∙ h .count-at;
-              next-at = other (r * 7 + 6) (λ e. omega arith) ∙ h .next-at;
+              kind-at = other (r * cell-width) (λ e. omega arith) ∙ h .kind-at;
+              id-at = other (r * cell-width + id-place) (λ e. omega arith) ∙ h .id-at;
+              start-at = getD-set-same o (r * cell-width + position-place) (s - q) 0 (omega (arith, root-inside));
+              length-at = other (r * cell-width + length-place) (λ e. omega arith) ∙ h .length-at;
+              first-at = other (r * cell-width + first-place) (λ e. omega arith) ∙ h .first-at;
+              count-at = other (r * cell-width + count-place) (λ e. omega arith) ∙ h .count-at;
+              next-at = other (r * cell-width + next-place) (λ e. omega arith) ∙ h .next-at;
               inner = out-frame o o′ (suc r) 0 kids (λ j x y. other j (λ e. omega arith)) (h .inner);
               after = out-frame o o′ (r + suc (nodes kids)) 0 rest (λ j x y. other j (λ e. omega arith)) (h .after);
             });
@@ -116,13 +116,13 @@ module _ (w o : List ℕ) (n c q : ℕ) (done : Trees) (t : Option ℕ) (s l : �
         size = omega (arith, m .size, nodes-⊕ done (tree t s l kids rest), nodes-⊕ done (tree t (s - q) l kids rest));
       }
 
-  pub restart-behind : (j : ℕ) → n * 7 ≤ j → getD o′ j 0 ≡ getD o j 0
+  pub restart-behind : (j : ℕ) → n * cell-width ≤ j → getD o′ j 0 ≡ getD o j 0
   restart-behind j h = other j (λ e. omega (arith, root-inside))
 
   pub read-root : getD w (siblings rest) 0 ≡ r
   read-root = (roots-after w c done (tree t s l kids rest) (m .roots)) .at
 
-  pub read-start : getD o (r * 7 + 2) 0 ≡ s
+  pub read-start : cell-position o r ≡ s
   read-start = parts-of .1 .start-at
 
 -- Where the work stands: the trees `done` are children, those `ahead` are still to be looked at.
@@ -176,10 +176,10 @@ module _ (held out : List ℕ) (limit q left n c : ℕ) (ts rest : Trees) (k : �
 pub record Next (held out : List ℕ) (limit q left n c : ℕ) (ts rest : Trees) (k over r : ℕ) : Type 0 where
   pub inside : r < n
   pub at-limit : limit ≤ r → over ≡ 0
-  pub moved : r < limit → Moving held (set out (r * 7 + 2) (getD out (r * 7 + 2) 0 - q)) limit q (left - 1) n c ts rest k
-  pub behind : (j : ℕ) → n * 7 ≤ j → getD (set out (r * 7 + 2) (getD out (r * 7 + 2) 0 - q)) j 0 ≡ getD out j 0
+  pub moved : r < limit → Moving held (set out (r * cell-width + position-place) (cell-position out r - q)) limit q (left - 1) n c ts rest k
+  pub behind : (j : ℕ) → n * cell-width ≤ j → getD (set out (r * cell-width + position-place) (cell-position out r - q)) j 0 ≡ getD out j 0
 
-module _ (held out : List ℕ) (limit q left n c : ℕ) (ts rest : Trees) (k : ℕ) (wide : n * 7 ≤ length out) (more-left : siblings rest < left) where
+module _ (held out : List ℕ) (limit q left n c : ℕ) (ts rest : Trees) (k : ℕ) (wide : n * cell-width ≤ length out) (more-left : siblings rest < left) where
   next-by : (done ahead : Trees) (over : ℕ) → Made held out n c (done ⊕ so-far ahead rest) → left ≡ siblings (so-far ahead rest) → over ≡ limit - (c + nodes done)
       → done ⊕ (relative q (within ahead over) ⊕ so-far (beyond ahead over) rest) ≡ relative q (within ts k) ⊕ so-far (beyond ts k) rest
       → beyond ahead over ≡ beyond ts k
@@ -229,7 +229,7 @@ module _ (held out : List ℕ) (limit q left n c : ℕ) (ts rest : Trees) (k : �
 pub record Going (held out₀ out : List ℕ) (low sp limit q left : ℕ) : Type 0 where
   pub size : length out ≡ length out₀
   pub at : (p : Open held out₀ low sp limit) → Moving held out limit q left (p .total) (p .cell) (p .trees) (p .rest) (p .count)
-  pub behind : (p : Open held out₀ low sp limit) → Behind (p .total * 7) out₀ out
+  pub behind : (p : Open held out₀ low sp limit) → Behind (p .total * cell-width) out₀ out
 
 pub going-start : (held out : List ℕ) (low sp limit q : ℕ) → Going held out out low sp limit q sp
 going-start held out low sp limit q = record {
@@ -248,13 +248,13 @@ module _ (held out₀ out : List ℕ) (low sp limit q left : ℕ) (g : Going hel
   pub going-reads : Open held out₀ low sp limit → low < left → left - 1 < length held
   going-reads p l = omega (arith, moving-few held out limit q left (p .total) (p .cell) (p .trees) (p .rest) (p .count) (g .at p), p .room .deep)
 
-  pub going-fits : Open held out₀ low sp limit → low < left → (r : ℕ) → r ≡ getD held (left - 1) 0 → r * 7 + 2 < length out
+  pub going-fits : Open held out₀ low sp limit → low < left → (r : ℕ) → r ≡ getD held (left - 1) 0 → r * cell-width + position-place < length out
   going-fits p l r e = omega (arith, e, next-of p l .inside, g .size, p .room .wide)
 
-  pub going-next : low < left → (r x : ℕ) → r ≡ getD held (left - 1) 0 → r < limit → x ≡ getD out (r * 7 + 2) 0 - q
-      → Going held out₀ (set out (r * 7 + 2) x) low sp limit q (left - 1)
+  pub going-next : low < left → (r x : ℕ) → r ≡ getD held (left - 1) 0 → r < limit → x ≡ cell-position out r - q
+      → Going held out₀ (set out (r * cell-width + position-place) x) low sp limit q (left - 1)
   going-next l r x e m f = record {
-    size = length-set out (r * 7 + 2) x ∙ g .size;
+    size = length-set out (r * cell-width + position-place) x ∙ g .size;
     at = λ p. rw (f, e) (next-of p l .moved (rw e at m));
     behind = λ p. record { same = λ j h. rw (f, e) (next-of p l .behind j h) ∙ g .behind p .same j h };
   }

@@ -14,14 +14,14 @@ use lib.Dec.{eqb, ltb}
 use lib.ListN.{length, getD, set, drop, length-set, length-drop}
 use lib.Seq.{getD-set-same, getD-set-other, length-take-le}
 use Rattle.tree.specs.Trees.{Trees, tree, part, _⊕_, siblings}
-use Rattle.tree.specs.Cells.{kind, id-word, leading, following, cell-tree}
+use Rattle.tree.specs.Cells.{kind, id-word, leading, following, cell-tree, cell-width, cell-kind, cell-id, cell-position, cell-length, cell-first, cell-count}
 use Rattle.tree.proofs.CellLaws.{decode-at}
 use Rattle.materialize.specs.Steps.{Made, Taken, Put, Packed, Unpacked, unpacked, weight, cells-before, ahead, At, part-at, Part-fits, trees-left, Typed, Next-cell, Next-part, Wrote}
 use Rattle.materialize.proofs.Written.{siblings-⊕, siblings-nodes}
 use Rattle.materialize.proofs.Unpacking.{same-room}
 use Rattle.materialize.proofs.Reading.{unpacked-⊕, leading-following, siblings-following, following-all, marks-following, marks-frame, mark-at, made-frame}
 
-before-next : (cs : List ℕ) (i : ℕ) → cells-before cs (i + 1) ≡ cells-before cs i + weight (getD cs (i * 7) 0) (getD cs (i * 7 + 5) 0)
+before-next : (cs : List ℕ) (i : ℕ) → cells-before cs (i + 1) ≡ cells-before cs i + weight (cell-kind cs i) (cell-count cs i)
 unfolding cells-before
 before-next cs i = rw (add-one i)
 
@@ -31,23 +31,23 @@ unfolding kind id-word
 kind-of k i (inl x) = subst (λ (y : ℕ). (y ≡ kind (elim (eqb y 3) [ true ↦ none | false ↦ some i ])) × (i ≡ id-word (elim (eqb y 3) [ true ↦ none | false ↦ some i ]))) (sym x) (refl, refl)
 kind-of k i (inr (x, z)) = subst (λ (y : ℕ). (y ≡ kind (elim (eqb y 3) [ true ↦ none | false ↦ some i ])) × (i ≡ id-word (elim (eqb y 3) [ true ↦ none | false ↦ some i ]))) (sym x) (refl, z)
 
-module _ (held out cs ws : List ℕ) (total i cell sp mp : ℕ) (a : At held out cs ws total (i + 1) cell sp mp) (inside : i * 7 + 7 ≤ length cs) where
+module _ (held out cs ws : List ℕ) (total i cell sp mp : ℕ) (a : At held out cs ws total (i + 1) cell sp mp) (inside : i * cell-width + cell-width ≤ length cs) where
   abbrev ds : Trees
   ds = ahead cs ws (i + 1)
 
   abbrev n : ℕ
-  n = getD cs (i * 7 + 5) 0
+  n = cell-count cs i
 
-  here : ahead cs ws i ≡ cell-tree ws (getD cs (i * 7) 0) (getD cs (i * 7 + 1) 0) (getD cs (i * 7 + 2) 0) (getD cs (i * 7 + 3) 0) (getD cs (i * 7 + 4) 0) n ds
-  here = decode-at ws cs i (length cs / 7) (omega arith)
+  here : ahead cs ws i ≡ cell-tree ws (cell-kind cs i) (cell-id cs i) (cell-position cs i) (cell-length cs i) (cell-first cs i) n ds
+  here = decode-at ws cs i (length cs / cell-width) (omega arith)
 
-  few : mp + (i + 1) ≤ length cs / 7
+  few : mp + (i + 1) ≤ length cs / cell-width
   few = a .few
 
   -- a tree
-  module _ (other : getD cs (i * 7) 0 ≡ 2 → ⊥) where
+  module _ (other : cell-kind cs i ≡ 2 → ⊥) where
     abbrev t : Option ℕ
-    t = elim (eqb (getD cs (i * 7) 0) 3) [ true ↦ none | false ↦ some (getD cs (i * 7 + 1) 0) ]
+    t = elim (eqb (cell-kind cs i) 3) [ true ↦ none | false ↦ some (cell-id cs i) ]
 
     abbrev left : ℕ
     left = mp - n
@@ -55,16 +55,16 @@ module _ (held out cs ws : List ℕ) (total i cell sp mp : ℕ) (a : At held out
     abbrev kept : ℕ
     kept = trees-left held total sp mp left
 
-    tree-here : ahead cs ws i ≡ tree t (getD cs (i * 7 + 2) 0) (getD cs (i * 7 + 3) 0) (leading ds n) (following ds n)
+    tree-here : ahead cs ws i ≡ tree t (cell-position cs i) (cell-length cs i) (leading ds n) (following ds n)
     unfolding cell-tree
-    tree-here = here ∙ rw (ne-eqb (getD cs (i * 7) 0) 2 other, cell-tree)
+    tree-here = here ∙ rw (ne-eqb (cell-kind cs i) 2 other, cell-tree)
 
     pub cut : unpacked ds ≡ unpacked (leading ds n) ⊕ unpacked (following ds n)
     cut = ap unpacked (sym (leading-following ds n)) ∙ unpacked-⊕ (leading ds n) (following ds n)
 
     pub one-more : cell ≡ cells-before cs i + 1
     unfolding weight
-    one-more = a .before ∙ before-next cs i ∙ ap (λ (x : ℕ). cells-before cs i + x) (rw (ne-eqb (getD cs (i * 7) 0) 2 other))
+    one-more = a .before ∙ before-next cs i ∙ ap (λ (x : ℕ). cells-before cs i + x) (rw (ne-eqb (cell-kind cs i) 2 other))
 
     pub kept-is : siblings (unpacked (following ds n)) ≡ kept
     unfolding trees-left
@@ -93,14 +93,14 @@ module _ (held out cs ws : List ℕ) (total i cell sp mp : ℕ) (a : At held out
     pub kept-few : kept < total
     kept-few = omega (arith, kept-is, siblings-nodes (unpacked (following ds n)), siblings-nodes (unpacked ds), siblings-⊕ (unpacked (leading ds n)) (unpacked (following ds n)), ap siblings cut, a .made .size, one-more)
 
-    module _ (held₂ out₂ : List ℕ) (p : Put held held₂ out out₂ (cell - 1) kept sp (getD cs (i * 7) 0) (getD cs (i * 7 + 1) 0) (getD cs (i * 7 + 2) 0) (getD cs (i * 7 + 3) 0))
+    module _ (held₂ out₂ : List ℕ) (p : Put held held₂ out out₂ (cell - 1) kept sp (cell-kind cs i) (cell-id cs i) (cell-position cs i) (cell-length cs i))
         (h₂ : length held₂ ≡ length held) (o₂ : length out₂ ≡ length out)
-        (kinds : (getD cs (i * 7) 0 ≡ 1) ⊎ ((getD cs (i * 7) 0 ≡ 3) × (getD cs (i * 7 + 1) 0 ≡ 0))) where
+        (kinds : (cell-kind cs i ≡ 1) ⊎ ((cell-kind cs i ≡ 3) × (cell-id cs i ≡ 0))) where
       abbrev held₃ : List ℕ
       held₃ = set held₂ (total + left) kept
 
-      kind-is : (getD cs (i * 7) 0 ≡ kind t) × (getD cs (i * 7 + 1) 0 ≡ id-word t)
-      kind-is = kind-of (getD cs (i * 7) 0) (getD cs (i * 7 + 1) 0) kinds
+      kind-is : (cell-kind cs i ≡ kind t) × (cell-id cs i ≡ id-word t)
+      kind-is = kind-of (cell-kind cs i) (cell-id cs i) kinds
 
       deep-enough : total + left < length held₂
       deep-enough = omega (arith, h₂, a .deep)
@@ -127,19 +127,19 @@ module _ (held out cs ws : List ℕ) (total i cell sp mp : ℕ) (a : At held out
       }
 
   -- a part
-  module _ (is : getD cs (i * 7) 0 ≡ 2) (fits : Part-fits cs ws i) (ps : List ℕ) (part-is : ps ≡ part-at cs ws i) where
+  module _ (is : cell-kind cs i ≡ 2) (fits : Part-fits cs ws i) (ps : List ℕ) (part-is : ps ≡ part-at cs ws i) where
     abbrev pos : ℕ
-    pos = getD cs (i * 7 + 2) 0
+    pos = cell-position cs i
 
     abbrev first : ℕ
     first = cell - n / 4
 
-    part-here : ahead cs ws i ≡ part pos (getD cs (i * 7 + 3) 0) ps ds
+    part-here : ahead cs ws i ≡ part pos (cell-length cs i) ps ds
     unfolding cell-tree
     part-here = here ∙ rw (is, part-is)
 
     pub long : length ps ≡ n
-    long = ap length part-is ∙ length-take-le n (drop (getD cs (i * 7 + 4) 0) ws) (omega (arith, fits .inside, length-drop (getD cs (i * 7 + 4) 0) ws))
+    long = ap length part-is ∙ length-take-le n (drop (cell-first cs i) ws) (omega (arith, fits .inside, length-drop (cell-first cs i) ws))
 
     pub more : cell ≡ cells-before cs i + n / 4
     unfolding weight
@@ -183,7 +183,7 @@ module _ (held out cs ws : List ℕ) (total i cell sp mp : ℕ) (a : At held out
       }
 
 -- the same for numbers that the code has found
-module _ (held out cs : List ℕ) (total i cell sp mp left kept : ℕ) (left-is : left ≡ mp - getD cs (i * 7 + 5) 0) (kept-is : kept ≡ trees-left held total sp mp left) where
+module _ (held out cs : List ℕ) (total i cell sp mp left kept : ℕ) (left-is : left ≡ mp - cell-count cs i) (kept-is : kept ≡ trees-left held total sp mp left) where
   pub tree-ready : Next-cell held out cs total i cell sp mp → Taken held out (cell - 1) kept sp
   tree-ready p = rw (kept-is, left-is) (tree-taken held out cs (p .ws) total i cell sp mp (p .at) (p .inside) (p .other))
 
@@ -194,8 +194,8 @@ module _ (held out cs : List ℕ) (total i cell sp mp left kept : ℕ) (left-is 
         omega (arith, one-more held out cs (p .ws) total i cell sp mp (p .at) (p .inside) (p .other)),
       )
 
-  pub tree-wrote : (held₂ out₂ ws : List ℕ) → i * 7 + 7 ≤ length cs → (getD cs (i * 7) 0 ≡ 2 → ⊥) → Typed cs i
-      → Put held held₂ out out₂ (cell - 1) kept sp (getD cs (i * 7) 0) (getD cs (i * 7 + 1) 0) (getD cs (i * 7 + 2) 0) (getD cs (i * 7 + 3) 0)
+  pub tree-wrote : (held₂ out₂ ws : List ℕ) → i * cell-width + cell-width ≤ length cs → (cell-kind cs i ≡ 2 → ⊥) → Typed cs i
+      → Put held held₂ out out₂ (cell - 1) kept sp (cell-kind cs i) (cell-id cs i) (cell-position cs i) (cell-length cs i)
       → length held₂ ≡ length held → length out₂ ≡ length out
       → Wrote held (set held₂ (total + left) kept) out out₂ cs ws total i cell sp mp (cell - 1) (kept + 1) (left + 1)
   tree-wrote held₂ out₂ ws inside other typed p h o =
@@ -205,18 +205,18 @@ module _ (held out cs : List ℕ) (total i cell sp mp left kept : ℕ) (left-is 
         behind = λ a. q .out-behind (tree-taken held out cs ws total i cell sp mp a inside other);
       })
 
-module _ (held out cs ws : List ℕ) (total i cell sp mp : ℕ) (ps : List ℕ) (first : ℕ) (part-is : ps ≡ part-at cs ws i) (first-is : first ≡ cell - getD cs (i * 7 + 5) 0 / 4) where
-  pub part-ready : Next-part held out cs ws total i cell sp mp → Packed held out first (getD cs (i * 7 + 2) 0) sp ps
+module _ (held out cs ws : List ℕ) (total i cell sp mp : ℕ) (ps : List ℕ) (first : ℕ) (part-is : ps ≡ part-at cs ws i) (first-is : first ≡ cell - cell-count cs i / 4) where
+  pub part-ready : Next-part held out cs ws total i cell sp mp → Packed held out first (cell-position cs i) sp ps
   part-ready p = rw first-is (part-packed held out cs ws total i cell sp mp (p .at) (p .inside) (p .is) (p .fits) ps part-is)
 
-  pub part-few : Next-part held out cs ws total i cell sp mp → (sp ≤ 4294967295) × (getD cs (i * 7 + 5) 0 / 4 ≤ cell)
+  pub part-few : Next-part held out cs ws total i cell sp mp → (sp ≤ 4294967295) × (cell-count cs i / 4 ≤ cell)
   part-few p = (
     omega (arith, sp-few held out cs ws total i cell sp mp (p .at) (p .inside) (p .is) (p .fits) ps part-is, p .at .room .few),
     omega (arith, more held out cs ws total i cell sp mp (p .at) (p .inside) (p .is) (p .fits) ps part-is),
   )
 
-  pub part-wrote : (held₂ out₂ : List ℕ) (r : ℕ) → i * 7 + 7 ≤ length cs → getD cs (i * 7) 0 ≡ 2 → Part-fits cs ws i
-      → Unpacked held held₂ out out₂ first (getD cs (i * 7 + 2) 0) sp ps r → length held₂ ≡ length held → length out₂ ≡ length out
+  pub part-wrote : (held₂ out₂ : List ℕ) (r : ℕ) → i * cell-width + cell-width ≤ length cs → cell-kind cs i ≡ 2 → Part-fits cs ws i
+      → Unpacked held held₂ out out₂ first (cell-position cs i) sp ps r → length held₂ ≡ length held → length out₂ ≡ length out
       → Wrote held (set held₂ (total + mp) sp) out out₂ cs ws total i cell sp mp first r (mp + 1)
   part-wrote held₂ out₂ r inside is fits u h o =
       let v = rw first-is at u in

@@ -13,7 +13,7 @@ use lib.ListN.{length, getD, set, length-set}
 use lib.Seq.{getD-set-same, getD-set-other}
 use Rattle.words.specs.Words.{put}
 use Rattle.tree.specs.Trees.{Trees, nil, tree, part, _⊕_, nodes, siblings}
-use Rattle.tree.specs.Cells.{kind, id-word}
+use Rattle.tree.specs.Cells.{kind, id-word, cell-width, next-place}
 use Rattle.tree.proofs.PackLaws.{nodes-⊕}
 use Rattle.materialize.specs.Steps.{leads, Out, Roots, Made, Room, ended, first-link, next-link, Taken, Put, Fit}
 use Rattle.words.proofs.Stores.{put-in, put-after}
@@ -60,7 +60,7 @@ module _ (w o : List ℕ) (n c : ℕ) (ks bs : Trees) (m : Made w o n (suc c) (k
   inside : kept < sp → getD w kept 0 < n
   inside h = omega (arith, total, (last-root w (suc c) ks bs (m .roots) (omega (arith, siblings-⊕ ks bs))) .1)
 
-  at-end : kept < sp → getD w kept 0 * 7 + 6 < length o
+  at-end : kept < sp → getD w kept 0 * cell-width + next-place < length o
   at-end h = omega (arith, inside h, room .wide)
 
   -- the children's links end, and what follows them stays
@@ -71,20 +71,20 @@ module _ (w o : List ℕ) (n c : ℕ) (ks bs : Trees) (m : Made w o n (suc c) (k
       x : Out o (suc c) (leads bs (suc c + nodes ks) 0) ks × Out o (suc c + nodes ks) 0 bs
       x = out-split o (suc c) 0 ks bs (m .cells)
 
-      go : Dec (sp ≤ kept) → Out (cond (ltb kept sp) (set o (getD w kept 0 * 7 + 6) 0) o) (suc c) 0 ks
-          × Out (cond (ltb kept sp) (set o (getD w kept 0 * 7 + 6) 0) o) (suc c + nodes ks) 0 bs
+      go : Dec (sp ≤ kept) → Out (cond (ltb kept sp) (set o (getD w kept 0 * cell-width + next-place) 0) o) (suc c) 0 ks
+          × Out (cond (ltb kept sp) (set o (getD w kept 0 * cell-width + next-place) 0) o) (suc c + nodes ks) 0 bs
       go (yes h) =
           let z : siblings ks ≡ 0 = omega (arith, siblings-⊕ ks bs) in
           rw (le-ltb kept sp h) (out-none o o (suc c) (leads bs (suc c + nodes ks) 0) 0 ks z (x .0), x .1)
       go (no h) =
           let l : kept < sp = omega arith in
           let r : ℕ = getD w kept 0 in
-          let o₂ : List ℕ = set o (r * 7 + 6) 0 in
+          let o₂ : List ℕ = set o (r * cell-width + next-place) 0 in
           let b = last-root w (suc c) ks bs (m .roots) (omega (arith, siblings-⊕ ks bs)) in
           rw (lt-ltb kept sp l) (
             retarget w o o₂ (suc c) (leads bs (suc c + nodes ks) 0) 0 ks bs (m .roots) (x .0)
-                (getD-set-same o (r * 7 + 6) 0 0 (at-end l)) (λ j e. getD-set-other o (r * 7 + 6) j 0 0 e),
-            out-frame o o₂ (suc c + nodes ks) 0 bs (λ j y z. getD-set-other o (r * 7 + 6) j 0 0 (λ e. omega (arith, b .1))) (x .1),
+                (getD-set-same o (r * cell-width + next-place) 0 0 (at-end l)) (λ j e. getD-set-other o (r * cell-width + next-place) j 0 0 e),
+            out-frame o o₂ (suc c + nodes ks) 0 bs (λ j y z. getD-set-other o (r * cell-width + next-place) j 0 0 (λ e. omega (arith, b .1))) (x .1),
           )
 
   first-is : first-link c kept sp ≡ leads ks (suc c) 0
@@ -102,33 +102,33 @@ module _ (w o : List ℕ) (n c : ℕ) (ks bs : Trees) (m : Made w o n (suc c) (k
   unfolding ended
   long = go (ltb kept sp)
     where
-      go : (b : Bool) → length (cond b (set o (getD w kept 0 * 7 + 6) 0) o) ≡ length o
-      go true = length-set o (getD w kept 0 * 7 + 6) 0
+      go : (b : Bool) → length (cond b (set o (getD w kept 0 * cell-width + next-place) 0) o) ≡ length o
+      go true = length-set o (getD w kept 0 * cell-width + next-place) 0
       go false = refl
 
-  ended-behind : (j : ℕ) → n * 7 ≤ j → getD o₁ j 0 ≡ getD o j 0
+  ended-behind : (j : ℕ) → n * cell-width ≤ j → getD o₁ j 0 ≡ getD o j 0
   unfolding ended
   ended-behind j h = go (decLe sp kept)
     where
-      go : Dec (sp ≤ kept) → getD (cond (ltb kept sp) (set o (getD w kept 0 * 7 + 6) 0) o) j 0 ≡ getD o j 0
+      go : Dec (sp ≤ kept) → getD (cond (ltb kept sp) (set o (getD w kept 0 * cell-width + next-place) 0) o) j 0 ≡ getD o j 0
       go (yes x) = rw (le-ltb kept sp x)
-      go (no x) = let y : kept < sp = omega arith in rw (lt-ltb kept sp y) (getD-set-other o (getD w kept 0 * 7 + 6) j 0 0 (λ e. omega (arith, inside y)))
+      go (no x) = let y : kept < sp = omega arith in rw (lt-ltb kept sp y) (getD-set-other o (getD w kept 0 * cell-width + next-place) j 0 0 (λ e. omega (arith, inside y)))
 
   module _ (t : Option ℕ) (s l : ℕ) where
     abbrev vs : List ℕ
     vs = kind t ∷ id-word t ∷ s ∷ l ∷ first-link c kept sp ∷ (sp - kept) ∷ next-link w kept ∷ []
 
     abbrev o₃ : List ℕ
-    o₃ = put o₁ (c * 7) vs
+    o₃ = put o₁ (c * cell-width) vs
 
-    fits : c * 7 + 7 ≤ length o₁
+    fits : c * cell-width + cell-width ≤ length o₁
     fits = omega (arith, long, total, room .wide)
 
-    at : (k : ℕ) → k < 7 → getD o₃ (c * 7 + k) 0 ≡ getD vs k 0
-    at k h = put-in o₁ (c * 7) vs fits k h
+    at : (k : ℕ) → k < 7 → getD o₃ (c * cell-width + k) 0 ≡ getD vs k 0
+    at k h = put-in o₁ (c * cell-width) vs fits k h
 
-    on : (j : ℕ) → c * 7 + 7 ≤ j → getD o₃ j 0 ≡ getD o₁ j 0
-    on j h = put-after o₁ (c * 7) vs fits j h
+    on : (j : ℕ) → c * cell-width + cell-width ≤ j → getD o₃ j 0 ≡ getD o₁ j 0
+    on j h = put-after o₁ (c * cell-width) vs fits j h
 
     d-is : suc c + nodes ks ≡ c + suc (nodes ks)
     d-is = omega arith
@@ -137,7 +137,7 @@ module _ (w o : List ℕ) (n c : ℕ) (ks bs : Trees) (m : Made w o n (suc c) (k
     unfolding nodes
     pushed = record {
       cells = record {
-        kind-at = ap (λ (k : ℕ). getD o₃ k 0) (sym (add-zero (c * 7))) ∙ at 0 (omega arith);
+        kind-at = ap (λ (k : ℕ). getD o₃ k 0) (sym (add-zero (c * cell-width))) ∙ at 0 (omega arith);
         id-at = at 1 (omega arith);
         start-at = at 2 (omega arith);
         length-at = at 3 (omega arith);
@@ -158,10 +158,10 @@ module _ (w o : List ℕ) (n c : ℕ) (ks bs : Trees) (m : Made w o n (suc c) (k
   pub kept-behind : (j : ℕ) → n ≤ j → getD (set w kept c) j 0 ≡ getD w j 0
   kept-behind j h = getD-set-other w kept j c 0 (λ e. omega (arith, few))
 
-  pub out-behind : (k i s l j : ℕ) → n * 7 ≤ j
-      → getD (put o₁ (c * 7) (k ∷ i ∷ s ∷ l ∷ first-link c kept sp ∷ (sp - kept) ∷ next-link w kept ∷ [])) j 0 ≡ getD o j 0
+  pub out-behind : (k i s l j : ℕ) → n * cell-width ≤ j
+      → getD (put o₁ (c * cell-width) (k ∷ i ∷ s ∷ l ∷ first-link c kept sp ∷ (sp - kept) ∷ next-link w kept ∷ [])) j 0 ≡ getD o j 0
   out-behind k i s l j h =
-      put-after o₁ (c * 7) (k ∷ i ∷ s ∷ l ∷ first-link c kept sp ∷ (sp - kept) ∷ next-link w kept ∷ []) (omega (arith, long, total, room .wide)) j (omega (arith, total))
+      put-after o₁ (c * cell-width) (k ∷ i ∷ s ∷ l ∷ first-link c kept sp ∷ (sp - kept) ∷ next-link w kept ∷ []) (omega (arith, long, total, room .wide)) j (omega (arith, total))
       ∙ ended-behind j h
 
 -- there is room for a tree that can be written
@@ -186,7 +186,7 @@ taken-fits w o c kept sp p =
     })
 
 pub push-law : (w o o₁ o₃ : List ℕ) (c kept sp k i s l first next : ℕ) → first ≡ first-link c kept sp → next ≡ next-link w kept
-    → o₁ ≡ ended w o kept sp → o₃ ≡ put o₁ (c * 7) (k ∷ i ∷ s ∷ l ∷ first ∷ (sp - kept) ∷ next ∷ [])
+    → o₁ ≡ ended w o kept sp → o₃ ≡ put o₁ (c * cell-width) (k ∷ i ∷ s ∷ l ∷ first ∷ (sp - kept) ∷ next ∷ [])
     → Put w (set w kept c) o o₃ c kept sp k i s l
 push-law w o o₁ o₃ c kept sp k i s l first next ef en e₁ e₃ = record {
   made = λ p t ek ei. rw (e₃, e₁, ef, en, ek, ei) (rw (p .left, p .all) at (pushed w o (p .total) c (p .kids) (p .rest) (p .made) (p .room) t s l));

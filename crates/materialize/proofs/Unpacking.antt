@@ -8,7 +8,7 @@ use lib.ListN.{length, drop, length-drop}
 use Rattle.words.specs.Words.{id-of, start-of, end-of, last-of}
 use Rattle.words.proofs.Runs.{four-at}
 use Rattle.tree.specs.Trees.{Trees, nil, tree, part, _⊕_, nodes, siblings}
-use Rattle.tree.specs.Cells.{kind, id-word, relative}
+use Rattle.tree.specs.Cells.{kind, id-word, relative, cell-width}
 use Rattle.tree.specs.Materialise.{within, beyond, unpack}
 use Rattle.tree.proofs.PackLaws.{nodes-⊕}
 use Rattle.materialize.specs.Steps.{Made, Room, Behind, so-far, Open, Moved, Taken, Put, inner-count, Packed, Unpacked}
@@ -62,7 +62,7 @@ pub record Unpacking (held₀ held out₀ out : List ℕ) (c p sp : ℕ) (ws : L
   pub made : (g : Packed held₀ out₀ c p sp ws) → Made held out (g .total) (c + i) (so-far (unpack p (i * 4) (drop (i * 4) ws)) (g .rest))
   pub all : (g : Packed held₀ out₀ c p sp ws) → siblings (so-far (unpack p (i * 4) (drop (i * 4) ws)) (g .rest)) ≡ left
   pub held-behind : (g : Packed held₀ out₀ c p sp ws) → Behind (g .total) held₀ held
-  pub out-behind : (g : Packed held₀ out₀ c p sp ws) → Behind (g .total * 7) out₀ out
+  pub out-behind : (g : Packed held₀ out₀ c p sp ws) → Behind (g .total * cell-width) out₀ out
 
 pub unpacking-start : (held out : List ℕ) (c p sp : ℕ) (ws : List ℕ) → Unpacking held held out out c p sp ws sp (length ws / 4)
 unfolding relative _⊕_
@@ -155,5 +155,5 @@ module _ (held₀ held out₀ out : List ℕ) (c p sp : ℕ) (ws : List ℕ) (le
           made = λ g. rw (sym (next-is g)) (e .made (taken g) (some (id-of ws (i - 1))) refl id-is);
           all = λ g. rw (sym (next-is g)) (omega (arith, m .left (opened g)));
           held-behind = λ g. behind-on (g .total) held₀ held held₂ (v .held-behind g) (e .held-behind (taken g));
-          out-behind = λ g. behind-on (g .total * 7) out₀ out₁ out₂ (behind-on (g .total * 7) out₀ out out₁ (v .out-behind g) (m .behind (opened g))) (e .out-behind (taken g));
+          out-behind = λ g. behind-on (g .total * cell-width) out₀ out₁ out₂ (behind-on (g .total * cell-width) out₀ out out₁ (v .out-behind g) (m .behind (opened g))) (e .out-behind (taken g));
         }

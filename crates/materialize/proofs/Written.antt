@@ -7,6 +7,7 @@ use native.Mathlib.Decide.{decLe}
 use native.Mathlib.Omega.{arith}
 use native.Mathlib.Nat.{add-zero}
 use lib.ListN.{getD}
+use Rattle.tree.specs.Cells.{cell-width, id-place, position-place, length-place, first-place, count-place, next-place, cell-next}
 use Rattle.tree.specs.Trees.{Trees, nil, tree, part, _⊕_, nodes, siblings}
 use Rattle.materialize.specs.Steps.{leads, Out, Roots}
 
@@ -35,19 +36,19 @@ leads-same (tree t s l kids rest) c e d z = refl
 leads-same (part s l ws rest) c e d z = refl
 
 -- cells stay where their words stay
-pub out-frame : (o o′ : List ℕ) (c e : ℕ) (ts : Trees) → ((j : ℕ) → c * 7 ≤ j → j < (c + nodes ts) * 7 → getD o′ j 0 ≡ getD o j 0)
+pub out-frame : (o o′ : List ℕ) (c e : ℕ) (ts : Trees) → ((j : ℕ) → c * cell-width ≤ j → j < (c + nodes ts) * cell-width → getD o′ j 0 ≡ getD o j 0)
     → Out o c e ts → Out o′ c e ts
 unfolding nodes
 out-frame o o′ c e nil f h = tt
 out-frame o o′ c e (tree t s l kids rest) f h =
     record {
-      kind-at = f (c * 7) (omega arith) (omega arith) ∙ h .kind-at;
-      id-at = f (c * 7 + 1) (omega arith) (omega arith) ∙ h .id-at;
-      start-at = f (c * 7 + 2) (omega arith) (omega arith) ∙ h .start-at;
-      length-at = f (c * 7 + 3) (omega arith) (omega arith) ∙ h .length-at;
-      first-at = f (c * 7 + 4) (omega arith) (omega arith) ∙ h .first-at;
-      count-at = f (c * 7 + 5) (omega arith) (omega arith) ∙ h .count-at;
-      next-at = f (c * 7 + 6) (omega arith) (omega arith) ∙ h .next-at;
+      kind-at = f (c * cell-width) (omega arith) (omega arith) ∙ h .kind-at;
+      id-at = f (c * cell-width + id-place) (omega arith) (omega arith) ∙ h .id-at;
+      start-at = f (c * cell-width + position-place) (omega arith) (omega arith) ∙ h .start-at;
+      length-at = f (c * cell-width + length-place) (omega arith) (omega arith) ∙ h .length-at;
+      first-at = f (c * cell-width + first-place) (omega arith) (omega arith) ∙ h .first-at;
+      count-at = f (c * cell-width + count-place) (omega arith) (omega arith) ∙ h .count-at;
+      next-at = f (c * cell-width + next-place) (omega arith) (omega arith) ∙ h .next-at;
       inner = out-frame o o′ (suc c) 0 kids (λ j a b. f j (omega arith) (omega arith)) (h .inner);
       after = out-frame o o′ (c + suc (nodes kids)) e rest (λ j a b. f j (omega arith) (omega arith)) (h .after);
     }
@@ -147,8 +148,8 @@ last-root w c (part s l ws rest) us h m = absurd h
 
 -- the last one's link led to e and is made to lead to d
 pub retarget : (w o o′ : List ℕ) (c e d : ℕ) (ts us : Trees) → Roots w c (ts ⊕ us) → Out o c e ts
-    → getD o′ (getD w (siblings us) 0 * 7 + 6) 0 ≡ d
-    → ((j : ℕ) → (j ≡ getD w (siblings us) 0 * 7 + 6 → ⊥) → getD o′ j 0 ≡ getD o j 0)
+    → getD o′ (getD w (siblings us) 0 * cell-width + next-place) 0 ≡ d
+    → ((j : ℕ) → (j ≡ getD w (siblings us) 0 * cell-width + next-place → ⊥) → getD o′ j 0 ≡ getD o j 0)
     → Out o′ c d ts
 unfolding _⊕_ nodes siblings
 retarget w o o′ c e d nil us r h g f = tt
@@ -158,16 +159,16 @@ retarget w o o′ c e d (tree t s l kids rest) us r h g f =
     last : ℕ
     last = getD w (siblings us) 0
 
-    made : ((k : ℕ) → k < 6 → c * 7 + k ≡ getD w (siblings us) 0 * 7 + 6 → ⊥) → getD o′ (c * 7 + 6) 0 ≡ leads rest (c + suc (nodes kids)) d
-        → ((j : ℕ) → suc c * 7 ≤ j → j < (suc c + nodes kids) * 7 → j ≡ getD w (siblings us) 0 * 7 + 6 → ⊥)
+    made : ((k : ℕ) → k < 6 → c * cell-width + k ≡ getD w (siblings us) 0 * cell-width + next-place → ⊥) → cell-next o′ c ≡ leads rest (c + suc (nodes kids)) d
+        → ((j : ℕ) → suc c * cell-width ≤ j → j < (suc c + nodes kids) * cell-width → j ≡ getD w (siblings us) 0 * cell-width + next-place → ⊥)
         → Out o′ (c + suc (nodes kids)) d rest → Out o′ c d (tree t s l kids rest)
     made off next below on = record {
-      kind-at = f (c * 7) (λ z. off 0 (omega arith) (omega (arith, z))) ∙ h .kind-at;
-      id-at = f (c * 7 + 1) (off 1 (omega arith)) ∙ h .id-at;
-      start-at = f (c * 7 + 2) (off 2 (omega arith)) ∙ h .start-at;
-      length-at = f (c * 7 + 3) (off 3 (omega arith)) ∙ h .length-at;
-      first-at = f (c * 7 + 4) (off 4 (omega arith)) ∙ h .first-at;
-      count-at = f (c * 7 + 5) (off 5 (omega arith)) ∙ h .count-at;
+      kind-at = f (c * cell-width) (λ z. off 0 (omega arith) (omega (arith, z))) ∙ h .kind-at;
+      id-at = f (c * cell-width + id-place) (off 1 (omega arith)) ∙ h .id-at;
+      start-at = f (c * cell-width + position-place) (off 2 (omega arith)) ∙ h .start-at;
+      length-at = f (c * cell-width + length-place) (off 3 (omega arith)) ∙ h .length-at;
+      first-at = f (c * cell-width + first-place) (off 4 (omega arith)) ∙ h .first-at;
+      count-at = f (c * cell-width + count-place) (off 5 (omega arith)) ∙ h .count-at;
       next-at = next;
       inner = out-frame o o′ (suc c) 0 kids (λ j x y. f j (below j x y)) (h .inner);
       after = on;
@@ -178,11 +179,11 @@ retarget w o o′ c e d (tree t s l kids rest) us r h g f =
         let none-left : siblings rest ≡ 0 = omega arith in
         let q : siblings (rest ⊕ us) ≡ siblings us = siblings-⊕ rest us ∙ omega arith in
         let a : getD w (siblings us) 0 ≡ c = rw q at (r .at) in
-        let b : getD o′ (c * 7 + 6) 0 ≡ d = rw a at g in
+        let b : cell-next o′ c ≡ d = rw a at g in
         made (λ k x y. omega (arith, a)) (b ∙ sym (leads-none rest (c + suc (nodes kids)) d none-left)) (λ j x y z. omega (arith, a))
         (out-none o o′ (c + suc (nodes kids)) e d rest none-left (h .after))
     go (no z) on =
         let b = (last-root w (c + suc (nodes kids)) rest us (r .after) (omega arith)) .0 in
-        let n : getD o′ (c * 7 + 6) 0 ≡ getD o (c * 7 + 6) 0 = f (c * 7 + 6) (λ y. omega (arith, b)) in
+        let n : cell-next o′ c ≡ cell-next o c = f (c * cell-width + next-place) (λ y. omega (arith, b)) in
         made (λ k x y. omega (arith, b)) (n ∙ h .next-at ∙ leads-same rest (c + suc (nodes kids)) e d (omega arith)) (λ j x y z. omega (arith, b)) on
 retarget w o o′ c e d (part s l ws rest) us r h g f = absurd h

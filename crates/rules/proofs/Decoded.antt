@@ -13,7 +13,7 @@ use Rattle.rules.specs.Lowest.{chain, chains, any-part, Named, named, to
 use lib.ListN.{length, take, drop, length-take, length-drop, take-append-drop}
 use lib.Seq.{drop-length, drop-drop}
 use Rattle.tree.specs.Trees.{Trees, nil, tree, nodes, siblings, part}
-use Rattle.tree.specs.Cells.{relative, absolute, packed, unless-none, kind, id-word, cells, decode}
+use Rattle.tree.specs.Cells.{relative, absolute, packed, unless-none, kind, id-word, cells, decode, cell-width}
 use Rattle.tree.proofs.CellLaws.{packed-relative}
 use Rattle.tree.proofs.KeptLaws.{Kept, kept-decode, counted, sound-counted}
 use Rattle.rules.proofs.Tests.{neither}
@@ -310,9 +310,9 @@ module _ (T S : ℕ) (parts : Bool) (ws : List ℕ) (short : Short ws) (fits : S
   accepted-both : (cs : List ℕ) → bad-cell T S parts cs ws ≡ none → (kept : Kept T (4294967295 - S) cs ws) × Only parts (relative 0 (kept .kids))
   unfolding bad-cell
   accepted-both cs h =
-      let (a, b) = outer (eqb (length cs) 0 || not (eqb (length cs % 7) 0)) _ h in
-      let (x, y) = neither (eqb (length cs) 0) (not (eqb (length cs % 7) 0)) a in
-      let seven : length cs % 7 ≡ 0 = eqb-true (length cs % 7) 0 (not-false _ y) in
+      let (a, b) = outer (eqb (length cs) 0 || not (eqb (length cs % cell-width) 0)) _ h in
+      let (x, y) = neither (eqb (length cs) 0) (not (eqb (length cs % cell-width) 0)) a in
+      let seven : length cs % cell-width ≡ 0 = eqb-true (length cs % cell-width) 0 (not-false _ y) in
       let same = words-cells cs seven in
       let some-cells : words-of (cells-of cs) ≡ [] → ⊥ = λ e. eqb-false (length cs) 0 x (ap length (sym same ∙ e)) in
       subst (λ l. (kept : Kept T (4294967295 - S) l ws) × Only parts (relative 0 (kept .kids))) same (accepted-cells (cells-of cs) some-cells b)

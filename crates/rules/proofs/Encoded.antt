@@ -12,7 +12,7 @@ use Rattle.rules.specs.Cell.{Cell, cells-of, first-child}
 use Rattle.rules.specs.Lowest.{chain, chains, any-part, named, top-broken, kind-broken, id-broken, link-broken, count-broken, place-broken, order-broken, inside-broken, end-broken, part-broken, stray-broken, next-named, first-named, words-end, lowest-from, top-named, bad-cell}
 use lib.ListN.{length}
 use Rattle.tree.specs.Trees.{Trees, nil, tree, nodes, siblings}
-use Rattle.tree.specs.Cells.{relative, absolute, packed, unless-none, kind, id-word, cells, decode}
+use Rattle.tree.specs.Cells.{relative, absolute, packed, unless-none, kind, id-word, cells, decode, cell-width}
 use Rattle.tree.proofs.CellLaws.{packed-relative, absolute-relative, shift-zero}
 use Rattle.tree.proofs.KeptLaws.{Kept, kept-decode}
 use Rattle.rules.proofs.Keeping.{Keeps, words-of, cells-words, length-words}
@@ -115,12 +115,12 @@ none-lowest : (T S : ℕ) (parts : Bool) (ws : List ℕ) (k : Cell) (ks : List C
 unfolding bad-cell
 none-lowest T S parts ws k ks h =
     let cs = words-of (k ∷ ks) in
-    let m : length cs ≡ 7 * length (k ∷ ks) = length-words (k ∷ ks) in
+    let m : length cs ≡ cell-width * length (k ∷ ks) = length-words (k ∷ ks) in
     let a : eqb (length cs) 0 ≡ false = ne-eqb (length cs) 0 (λ e. omega arith) in
-    let b : eqb (length cs % 7) 0 ≡ true = eq-eqb (length cs % 7) 0 (omega arith) in
+    let b : eqb (length cs % cell-width) 0 ≡ true = eq-eqb (length cs % cell-width) 0 (omega arith) in
     let e : lowest-from T parts ws (length (cells-of cs)) 1 0 (top-named S ∷ []) (cells-of cs) ≡ 0 =
     ap (λ l. lowest-from T parts ws (length l) 1 0 (top-named S ∷ []) l) (cells-words (k ∷ ks)) ∙ h in
-    answer (eqb (length cs) 0) (eqb (length cs % 7) 0) (lowest-from T parts ws (length (cells-of cs)) 1 0 (top-named S ∷ []) (cells-of cs)) a b e
+    answer (eqb (length cs) 0) (eqb (length cs % cell-width) 0) (lowest-from T parts ws (length (cells-of cs)) 1 0 (top-named S ∷ []) (cells-of cs)) a b e
   where
     answer : (x y : Bool) (n : ℕ) → x ≡ false → y ≡ true → n ≡ 0
         → _≡_ {A = Option ℕ} (elim (x || not y) [ true ↦ some 0 | false ↦ elim n [ zero ↦ none | suc c ↦ some (suc c) ] ]) none

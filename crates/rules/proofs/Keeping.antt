@@ -9,7 +9,7 @@ use lib.Dec.{ltb, leb, eqb}
 use Rattle.rules.specs.Cell.{Cell, cells-of, is-part, first-child}
 use Rattle.rules.specs.Lowest.{chain, chains, Named, top-broken, kind-broken, id-broken, link-broken, count-broken, place-broken, order-broken, inside-broken, end-broken, part-broken, stray-broken, any-of, broken, next-named, first-named, words-end, lowest-from}
 use lib.ListN.{length, getD}
-use Rattle.tree.specs.Cells.{kind}
+use Rattle.tree.specs.Cells.{kind, cell-width}
 use Rattle.rules.proofs.Tests.{both, neither}
 
 -- the words of cells
@@ -17,7 +17,7 @@ unfoldable pub words-of : List Cell → List ℕ
 words-of [] = []
 words-of (k ∷ ks) = k .kind ∷ k .id ∷ k .position ∷ k .len ∷ k .first ∷ k .count ∷ k .next ∷ words-of ks
 
-pub words-cells : (cs : List ℕ) → length cs % 7 ≡ 0 → words-of (cells-of cs) ≡ cs
+pub words-cells : (cs : List ℕ) → length cs % cell-width ≡ 0 → words-of (cells-of cs) ≡ cs
 unfolding words-of cells-of
 words-cells [] h = refl
 words-cells (k ∷ []) h = absurd (omega arith)
@@ -33,7 +33,7 @@ unfolding cells-of words-of
 cells-words [] = refl
 cells-words (k ∷ ks) = ap (λ r. k ∷ r) (cells-words ks)
 
-pub length-words : (ks : List Cell) → length (words-of ks) ≡ 7 * length ks
+pub length-words : (ks : List Cell) → length (words-of ks) ≡ cell-width * length ks
 unfolding words-of
 length-words [] = refl
 length-words (k ∷ ks) = omega (arith, length-words ks)

@@ -10,25 +10,26 @@ use borrow.Author.Tests.{eq-eqb, ne-eqb}
 use lib.Dec.{eqb}
 use lib.ListN.{length, getD, drop, set, length-drop}
 use lib.Seq.{paste, paste-suc, length-paste, getD-drop}
+use Rattle.tree.specs.Cells.{cell-width}
 use Rattle.words.specs.Words.{put}
 use Rattle.store.specs.Store.{told, liked, tree-cell, part-cell, PartReady, PartWritten}
 
 module _ (w out out′ : List ℕ) (n q cell : ℕ) where
   pub tree-written : (start first count below big next : ℕ)
-      → out′ ≡ put out (cell * 7) (getD w (n + 0) 0 ∷ getD w (n + 1) 0 ∷ start ∷ getD w (n + 3) 0 ∷ first ∷ count ∷ next ∷ [])
+      → out′ ≡ put out (cell * cell-width) (getD w (n + 0) 0 ∷ getD w (n + 1) 0 ∷ start ∷ getD w (n + 3) 0 ∷ first ∷ count ∷ next ∷ [])
       → start ≡ getD w (n + 2) 0 - q
       → first ≡ cond (eqb (getD w (n + 4) 0) 0) 0 (cell + 2)
       → count ≡ told w (getD w (n + 4) 0) 8
       → next ≡ cond (eqb (getD w (n + 5) 0) 0) 0 (cell + 2 + big)
       → big ≡ below → below ≡ told w (getD w (n + 4) 0) 6
-      → out′ ≡ put out (cell * 7) (tree-cell w n q cell)
+      → out′ ≡ put out (cell * cell-width) (tree-cell w n q cell)
   tree-written start first count below big next e e₁ e₂ e₃ e₄ e₅ e₆ = e ∙ rw (add-zero n, e₄, e₅, e₆, e₁, e₂, e₃)
 
   pub part-written : (word start next : ℕ)
-      → out′ ≡ put out (cell * 7) (2 ∷ 0 ∷ start ∷ getD w (n + 3) 0 ∷ word ∷ getD w (n + 1) 0 ∷ next ∷ [])
+      → out′ ≡ put out (cell * cell-width) (2 ∷ 0 ∷ start ∷ getD w (n + 3) 0 ∷ word ∷ getD w (n + 1) 0 ∷ next ∷ [])
       → start ≡ getD w (n + 2) 0 - q
       → next ≡ cond (eqb (getD w (n + 5) 0) 0) 0 (cell + 2)
-      → out′ ≡ put out (cell * 7) (part-cell w n q cell word)
+      → out′ ≡ put out (cell * cell-width) (part-cell w n q cell word)
   part-written word start next e e₁ e₂ = e ∙ rw (e₁, e₂)
 
 module _ (w : List ℕ) (from count : ℕ) (out₀ : List ℕ) (at : ℕ) (inside : from + count ≤ length w) (room : at + count ≤ length out₀) where
@@ -47,7 +48,7 @@ pub part-asks : (w : List ℕ) (n cell room word wide from count : ℕ) → Part
 part-asks w n cell room word wide from count p e f = rw (e, f) (p .held, (p .words-fit, p .small))
 
 pub whole-part : (w : List ℕ) (n q cell word : ℕ) (out out′ words words′ : List ℕ) (from count : ℕ) → from ≡ getD w (n + 4) 0 → count ≡ getD w (n + 1) 0
-    → out′ ≡ put out (cell * 7) (part-cell w n q cell word) → words′ ≡ paste words word (drop from w) count
+    → out′ ≡ put out (cell * cell-width) (part-cell w n q cell word) → words′ ≡ paste words word (drop from w) count
     → PartWritten w n q cell word out out′ words words′ count
 whole-part w n q cell word out out′ words words′ from count e f a b = record { count = f; cell-out = a; words-out = b ∙ rw (e, f) }
 

@@ -11,7 +11,7 @@ use lib.Dec.{eqb}
 use lib.ListN.{length, getD, take, drop, length-append, length-drop}
 use lib.Seq.{paste, ext-getD, length-take-le, getD-take, getD-drop}
 use Rattle.tree.specs.Trees.{Trees, nil, tree, part, nodes, siblings}
-use Rattle.tree.specs.Cells.{packed, kind, id-word, tree-cells, unless-none}
+use Rattle.tree.specs.Cells.{packed, kind, id-word, tree-cells, unless-none, cell-width}
 use Rattle.words.specs.Words.{put, front}
 use Rattle.words.proofs.Runs.{Fronted, fronted-length, fronted-next, fronted-all}
 use Rattle.store.specs.Store.{likes, word, Node, Holds, Same, told, Readable, tree-cell, part-cell, Writable, Wrote, PartReady, PartWritten}
@@ -52,7 +52,7 @@ module _ (w₀ : List ℕ) (top root start : ℕ) (out₀ words₀ : List ℕ) (
     pub size : length w ≡ length w₀
     pub holds : Holds w (p .base) top (p .low) at now
     pub stacked : Stacked w (p .base) top (p .low) sp later
-    pub cells-out : Fronted (tree-cells start (p .trees)) out₀ out (flow (suc cell) word (more from now later)) (cell * 7)
+    pub cells-out : Fronted (tree-cells start (p .trees)) out₀ out (flow (suc cell) word (more from now later)) (cell * cell-width)
     pub words-out : Fronted (packed (p .trees)) words₀ words (parts (more from now later)) word
     pub count : cell + left (more from now later) ≡ nodes (p .trees)
     pub depth : sp ≤ top + 2 * cell
@@ -61,7 +61,7 @@ module _ (w₀ : List ℕ) (top root start : ℕ) (out₀ words₀ : List ℕ) (
   pub going-start : Going w₀ out₀ words₀ root start top 0 0 (p .trees) end
   unfolding flow parts left tree-cells
   going-start =
-      let z : 0 ≡ 0 * 7 = omega arith in
+      let z : 0 ≡ 0 * cell-width = omega arith in
       record {
         size = refl;
         holds = p .holds;
@@ -94,7 +94,7 @@ module _ (w₀ : List ℕ) (top root start : ℕ) (out₀ words₀ : List ℕ) (
         omega (arith, e, length-append (g .words-out .done) (parts (more from now later)), g .words-out .size)
 
     pub out-same : (now : Trees) (later : Later) → Here now later → length out ≡ length out₀
-    out-same now later g = fronted-length _ out₀ out _ (cell * 7) (g .cells-out) (omega (arith, few-cells now later g, p .cells-fit))
+    out-same now later g = fronted-length _ out₀ out _ (cell * cell-width) (g .cells-out) (omega (arith, few-cells now later g, p .cells-fit))
 
     pub words-same : (now : Trees) (later : Later) → Here now later → length words ≡ length words₀
     words-same now later g = fronted-length _ words₀ words _ word (g .words-out) (omega (arith, few-words now later g, p .words-fit))
@@ -108,7 +108,7 @@ module _ (w₀ : List ℕ) (top root start : ℕ) (out₀ words₀ : List ℕ) (
         same base low ts h = unique w₀ (p .base) top (p .low) base top low root (p .trees) ts (p .holds) h
 
         by-cells : (ts : Trees) → p .trees ≡ ts → out ≡ front (tree-cells start ts) out₀
-        by-cells ts f = fronted-all _ out₀ out _ (cell * 7) (g .cells-out) (flow-nil (suc cell) word from end) ∙ ap (λ (us : Trees). front (tree-cells start us) out₀) f
+        by-cells ts f = fronted-all _ out₀ out _ (cell * cell-width) (g .cells-out) (flow-nil (suc cell) word from end) ∙ ap (λ (us : Trees). front (tree-cells start us) out₀) f
 
         by-words : (ts : Trees) → p .trees ≡ ts → words ≡ front (packed ts) words₀
         by-words ts f = fronted-all _ words₀ words _ word (g .words-out) refl ∙ ap (λ (us : Trees). front (packed us) words₀) f
@@ -149,14 +149,14 @@ module _ (w₀ : List ℕ) (top root start : ℕ) (out₀ words₀ : List ℕ) (
     pub node-inside : (now : Trees) (later : Later) → Here now later → (at ≡ 0 → ⊥) → at + 10 ≤ length w
     node-inside now later g ne = readable w (p .base) top (p .low) at now (roomy now later g .0) (g .holds) ne
 
-    pub cell-next : (now : Trees) (later : Later) → Here now later → (at ≡ 0 → ⊥) → cell + 1 ≤ nodes (p .trees)
+    pub cells-left : (now : Trees) (later : Later) → Here now later → (at ≡ 0 → ⊥) → cell + 1 ≤ nodes (p .trees)
     unfolding left nodes
-    cell-next nil later g ne = absurd (ne (g .holds))
-    cell-next (tree t s l kids rest) later g ne = omega (arith, g .count)
-    cell-next (part s l ws rest) later g ne = omega (arith, g .count)
+    cells-left nil later g ne = absurd (ne (g .holds))
+    cells-left (tree t s l kids rest) later g ne = omega (arith, g .count)
+    cells-left (part s l ws rest) later g ne = omega (arith, g .count)
 
-    pub cell-room : (now : Trees) (later : Later) → Here now later → (at ≡ 0 → ⊥) → cell * 7 + 7 ≤ length out
-    cell-room now later g ne = omega (arith, cell-next now later g ne, out-same now later g, p .cells-fit)
+    pub cell-room : (now : Trees) (later : Later) → Here now later → (at ≡ 0 → ⊥) → cell * cell-width + cell-width ≤ length out
+    cell-room now later g ne = omega (arith, cells-left now later g ne, out-same now later g, p .cells-fit)
 
     -- a link to a list
     linked : (n k : ℕ) (ts : Trees) → Holds w (p .base) top (p .low) n ts → cond (eqb n 0) 0 k ≡ unless-none ts k
@@ -178,7 +178,7 @@ module _ (w₀ : List ℕ) (top root start : ℕ) (out₀ words₀ : List ℕ) (
         record {
           inside = node-inside now later g ne;
           cell-fits = cell-room now later g ne;
-          few = omega (arith, cell-next now later g ne, p .few);
+          few = omega (arith, cells-left now later g ne, p .few);
           narrow = omega (arith, f, p .narrow);
           held = omega (arith, g .holds .first .within);
           words-fit = omega (arith, i, f, a, b, p .words-fit, words-same now later g);
@@ -203,18 +203,18 @@ module _ (w₀ : List ℕ) (top root start : ℕ) (out₀ words₀ : List ℕ) (
         record {
           kids-read = readable w (p .base) top (p .low) _ kids (r .0) (g .holds .first);
           few = omega (arith, m, c, p .few);
-          stack = omega (arith, g .depth, cell-next now later g ne, r .1);
-          above = omega (arith, g .depth, cell-next now later g ne, p .free);
+          stack = omega (arith, g .depth, cells-left now later g ne, r .1);
+          above = omega (arith, g .depth, cells-left now later g ne, p .free);
         }
 
     module _ (out′ : List ℕ) where
       -- a cell more
-      cells-more : (now : Trees) (later : Later) (g : Here now later) (vs rest : List ℕ) → length vs ≡ 7 → flow (suc cell) word (more from now later) ≡ vs ++ rest → out′ ≡ put out (cell * 7) vs
-          → Fronted (tree-cells start (p .trees)) out₀ out′ rest ((cell + 1) * 7)
-      cells-more now later g vs rest seven-long e f = fronted-next _ out₀ out _ (cell * 7) (g .cells-out) vs rest out′ ((cell + 1) * 7) (omega arith) e f
+      cells-more : (now : Trees) (later : Later) (g : Here now later) (vs rest : List ℕ) → length vs ≡ cell-width → flow (suc cell) word (more from now later) ≡ vs ++ rest → out′ ≡ put out (cell * cell-width) vs
+          → Fronted (tree-cells start (p .trees)) out₀ out′ rest ((cell + 1) * cell-width)
+      cells-more now later g vs rest seven-long e f = fronted-next _ out₀ out _ (cell * cell-width) (g .cells-out) vs rest out′ ((cell + 1) * cell-width) (omega arith) e f
 
       pub going-tree : (now : Trees) (later : Later) → Here now later → (at ≡ 0 → ⊥) → (getD w at 0 ≡ 2 → ⊥) → (w′ : List ℕ)
-          → out′ ≡ put out (cell * 7) (tree-cell w at from cell) → w′ ≡ put w sp (getD w (at + 5) 0 ∷ from ∷ [])
+          → out′ ≡ put out (cell * cell-width) (tree-cell w at from cell) → w′ ≡ put w sp (getD w (at + 5) 0 ∷ from ∷ [])
           → (ts : Trees) × (rest : Later) × Going w′ out′ words (getD w (at + 4) 0) (getD w (at + 2) 0) (sp + 2) (cell + 1) word ts rest
       unfolding left nodes parts packed
       going-tree nil later g ne k w′ e f = absurd (ne (g .holds))
@@ -231,7 +231,7 @@ module _ (w₀ : List ℕ) (top root start : ℕ) (out₀ words₀ : List ℕ) (
             from = rw below-one (put-in w sp two room 1 (omega arith));
             below = rw below-two (stacked-frame w w₁ (p .base) top (p .low) sp later kept (λ j m. put-before w sp two room j m) (g .stacked));
           };
-          cells-out = cells-more now later g vs _ refl (sym step) (e ∙ ap (λ (r : List ℕ). put out (cell * 7) r) cell-is);
+          cells-out = cells-more now later g vs _ refl (sym step) (e ∙ ap (λ (r : List ℕ). put out (cell * cell-width) r) cell-is);
           words-out = rw (append-assoc (packed kids) (packed rest) (parts later)) at (g .words-out);
           count = omega (arith, g .count);
           depth = omega (arith, g .depth);
@@ -316,7 +316,7 @@ module _ (w₀ : List ℕ) (top root start : ℕ) (out₀ words₀ : List ℕ) (
             size = g .size;
             holds = g .holds .next;
             stacked = g .stacked;
-            cells-out = cells-more now later g vs _ refl (sym step) (wr .cell-out ∙ ap (λ (r : List ℕ). put out (cell * 7) r) cell-is);
+            cells-out = cells-more now later g vs _ refl (sym step) (wr .cell-out ∙ ap (λ (r : List ℕ). put out (cell * cell-width) r) cell-is);
             words-out = fronted-next _ words₀ words _ word (g .words-out) ws (packed rest ++ parts later) words′ (word + r) (omega (arith, long)) (append-assoc ws (packed rest) (parts later)) copied;
             count = omega (arith, g .count);
             depth = omega (arith, g .depth);

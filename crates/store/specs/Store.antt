@@ -45,14 +45,14 @@ abbrev pub node-next : (w : List ℕ) (n : ℕ) → ℕ
 node-next w n = getD w (n + 5) 0
 
 -- ... the places of three that tell of the list from the node on how many cells, packed words and trees it has, ...
-abbrev pub cells-place : ℕ
-cells-place = 6
+abbrev pub node-cells-place : ℕ
+node-cells-place = 6
 
-abbrev pub words-place : ℕ
-words-place = 7
+abbrev pub node-words-place : ℕ
+node-words-place = 7
 
-abbrev pub trees-place : ℕ
-trees-place = 8
+abbrev pub node-trees-place : ℕ
+node-trees-place = 8
 
 -- ... and its balanced size where all have the node's own type.
 abbrev pub node-like : (w : List ℕ) (n : ℕ) → ℕ
@@ -67,9 +67,9 @@ pub record Node (w : List ℕ) (base top n : ℕ) (kind id start length like : �
   pub id-at : node-id w n ≡ id
   pub start-at : node-start w n ≡ start
   pub length-at : node-length w n ≡ length
-  pub cells-at : getD w (n + cells-place) 0 ≡ word (nodes list)
-  pub words-at : getD w (n + words-place) 0 ≡ word (lib.ListN.length (packed list))
-  pub trees-at : getD w (n + trees-place) 0 ≡ word (siblings list)
+  pub cells-at : getD w (n + node-cells-place) 0 ≡ word (nodes list)
+  pub words-at : getD w (n + node-words-place) 0 ≡ word (lib.ListN.length (packed list))
+  pub trees-at : getD w (n + node-trees-place) 0 ≡ word (siblings list)
   pub like-at : node-like w n ≡ like
 
 -- the words ws, of 16 bits each, stand from the address a on, at or above `low`
@@ -138,8 +138,8 @@ abbrev pub tree-cell : (w : List ℕ) (n q cell : ℕ) → List ℕ
 tree-cell w n q cell =
     node-kind w n ∷ node-id w n ∷ (node-start w n - q) ∷ node-length w n
     ∷ cond (eqb (node-first w n) 0) 0 (cell + 2)
-    ∷ told w (node-first w n) trees-place
-    ∷ cond (eqb (node-next w n) 0) 0 (cell + 2 + told w (node-first w n) cells-place)
+    ∷ told w (node-first w n) node-trees-place
+    ∷ cond (eqb (node-next w n) 0) 0 (cell + 2 + told w (node-first w n) node-cells-place)
     ∷ []
 
 -- the cell of a part's node, after `cell` others and `word` packed words

@@ -10,7 +10,7 @@ ghost use lib.Dec.{eqb};
 ghost use mathlib.Core.Bool.{cond};
 ghost use Rattle.tree.specs.Cells.{cell-width};
 ghost use Rattle.words.specs.Words.{put};
-ghost use Rattle.store.specs.Store.{told, liked, liked-on, word, Readable, PushedTree, PushedPart, StagedMore, tree-cell, PartReady, PartWritten, Writable, Wrote, TopReady, TopWrote, node-width, node-first, cells-place};
+ghost use Rattle.store.specs.Store.{told, liked, liked-on, word, Readable, PushedTree, PushedPart, StagedMore, tree-cell, PartReady, PartWritten, Writable, Wrote, TopReady, TopWrote, node-width, node-first, node-cells-place};
 use tree::CELL_WIDTH;
 
 // How many words a node has.
@@ -241,7 +241,7 @@ fn write_tree(work: &[u32], n: usize, from: u32, out: &mut [u32], cell: usize)
     requires { ⌜ n + node-width ≤ length (now work) ⌝ }
     requires { ⌜ Readable (now work) (node-first (now work) n) ⌝ }
     requires { ⌜ cell * cell-width + cell-width ≤ length (now out) ⌝ }
-    requires { ⌜ cell + 2 + told (now work) (node-first (now work) n) cells-place < 4294967296 ⌝ }
+    requires { ⌜ cell + 2 + told (now work) (node-first (now work) n) node-cells-place < 4294967296 ⌝ }
     ensures { λ _. ⌜ now (out .exit) ≡ put (now (out .entry)) (cell * cell-width) (tree-cell (now (work .entry)) n from cell) ⌝ }
 {
     let kids = work[n + NODE_FIRST];

@@ -11,6 +11,7 @@ use lib.ListN.{length}
 use denote.Ref.{now}
 use native.Mathlib.Omega.{arith}
 use borrow.Author.Needs.{needs}
+use Rattle.tree.specs.Cells.{cell-width}
 use Rattle.balance.proofs.balance_accepted.Statement.{statement}
 use Rattle.balance.proofs.balance_accepted.Tie as tie
 
@@ -50,15 +51,15 @@ module _ (c : tie.After-push-cells-arg) where
   abbrev low : ℕ
   low = c .before .before .before .before .before .before .before .stage-words .result
 
-  room : (low + length words ≡ (length cells / 7 + length words / 4) * 96 + 96) × (length cells / 7 + length words / 4 ≤ 44739241)
+  room : (low + length words ≡ (length cells / cell-width + length words / 4) * 96 + 96) × (length cells / cell-width + length words / 4 ≤ 44739241)
   room = (c .before .before .before .before .before .before .before .stage-words .ensures .1, omega (arith, c .before .before .before .before .before .before .before .before .before .before .before .before .before .before .pre .most, items-are cells words))
 
   deep : low ≤ length (c .before .before .before .before .before .before .before .stage-words .last .1 .0)
   deep = omega (arith, room .0, c .before .before .before .before .before .before .before .before .before .before .before .before .before .before .pre .lent, items-are cells words, c .before .before .before .before .before .before .before .stage-words .kept .1 .0)
 
-  started : Building (c .before .before .before .note-bases .last .1 .0) cells words (length cells / 7) (length cells / 7 * 11) low (length cells / 7)
+  started : Building (c .before .before .before .note-bases .last .1 .0) cells words (length cells / cell-width) (length cells / cell-width * 11) low (length cells / cell-width)
   started =
-      building-start (c .before .before .before .before .before .before .before .stage-words .last .1 .0) (c .before .before .before .note-bases .last .1 .0) cells words (length cells / 7) (length cells / 7 * 11) low
+      building-start (c .before .before .before .before .before .before .before .stage-words .last .1 .0) (c .before .before .before .note-bases .last .1 .0) cells words (length cells / cell-width) (length cells / cell-width * 11) low
       (c .before .before .before .before .before .before .before .before .before .before .before .before .before .before .pre .given) (c .before .before .before .before .before .before .before .stage-words .ensures .0) (c .before .before .before .note-bases .ensures .0 words (c .before .before .before .before .before .before .before .before .before .before .before .before .before .before .pre .given)) (c .before .before .before .note-bases .ensures .1) refl
       (omega (arith, room .0, room .1)) deep (omega (arith, room .0, room .1))
 

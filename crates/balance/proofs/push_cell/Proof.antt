@@ -10,6 +10,7 @@ use denote.Ref.{now}
 use native.Mathlib.Nat.{add-zero}
 use native.Mathlib.Omega.{arith}
 use borrow.Author.Needs.{needs}
+use Rattle.tree.specs.Cells.{cell-width, position-place, first-place, next-place, cell-kind, cell-position, cell-first, cell-next}
 use Rattle.balance.proofs.push_cell.Statement.{statement}
 use Rattle.balance.proofs.push_cell.Tie as tie
 
@@ -25,7 +26,7 @@ module _ (z : tie.Start) where
   ws = z .pre .1 .0
 
   abbrev n : ℕ
-  n = length cs / 7
+  n = length cs / cell-width
 
   abbrev high : ℕ
   high = z .args .high
@@ -42,13 +43,13 @@ module _ (z : tie.Start) where
   abbrev building : Building held cs ws n high low (i + 1)
   building = z .pre .1 .1
 
-  start-small : getD held i 0 + getD cs (i * 7 + 2) 0 ≤ 4294967295
+  start-small : getD held i 0 + cell-position cs i ≤ 4294967295
   start-small = start-fits held cs ws n high low i in-cells building
 
-  next-named : getD cs (i * 7 + 6) 0 ≤ n
+  next-named : cell-next cs i ≤ n
   next-named = next-in held cs ws n high low i in-cells building
 
-  next-small : getD cs (i * 7 + 6) 0 * 10 ≤ high
+  next-small : cell-next cs i * 10 ≤ high
   next-small = omega (arith, next-named, building .high-is)
 
   readable : (x : ℕ) → x ≤ n → Readable held (address high x)
@@ -57,10 +58,10 @@ module _ (z : tie.Start) where
   room : high - (i + 1) * 10 + 10 ≤ length held
   room = omega (arith, in-cells, building .high-is, building .under, building .inside)
 
-  words-small : getD cs (i * 7) 0 ≡ 2 → low + getD cs (i * 7 + 4) 0 ≤ 4294967295
+  words-small : cell-kind cs i ≡ 2 → low + cell-first cs i ≤ 4294967295
   words-small = words-fit held cs ws n high low i in-cells building
 
-  first-named : (getD cs (i * 7) 0 ≡ 2 → ⊥) → getD cs (i * 7 + 4) 0 ≤ n
+  first-named : (cell-kind cs i ≡ 2 → ⊥) → cell-first cs i ≤ n
   first-named = first-in held cs ws n high low i in-cells building
 
 add-start-2 : tie.Need-add-start-2
@@ -77,7 +78,7 @@ add-push-part-3 c =
 push-part-requires : tie.Need-push-part-requires
 push-part-requires c κs =
     let z = c .before .before .before .before .before .before .before .before .before .before .before .before in
-    (room z, rw (c .before .before .before .before .before .before .node-of .ensures) (readable z (getD (cs z) (i z * 7 + 6) 0) (next-named z)))
+    (room z, rw (c .before .before .before .before .before .before .node-of .ensures) (readable z (getD (cs z) (i z * cell-width + next-place) 0) (next-named z)))
 
 returns : tie.Need-returns
 returns c =
@@ -86,8 +87,8 @@ returns c =
     let pushed = c .before .before in
     let is-part = simp add-zero at (c .before .before .before .before .before .before .before .if1 .taken) in
     λ ws b. pushed-part (held z) (cs z) ws (n z) (high z) (low z) (i z) (in-cells z) b (pushed .push-part .last .0) (high z - (i z + 1) * 10)
-    (getD (held z) (i z) 0 + getD (cs z) (i z * 7 + 2) 0) (pushed .push-part .result) refl refl (next .node-of .result) (next .node-of .ensures)
-    is-part (low z + getD (cs z) (i z * 7 + 4) 0) refl (pushed .push-part .ensures)
+    (getD (held z) (i z) 0 + getD (cs z) (i z * cell-width + position-place) 0) (pushed .push-part .result) refl refl (next .node-of .result) (next .node-of .ensures)
+    is-part (low z + getD (cs z) (i z * cell-width + first-place) 0) refl (pushed .push-part .ensures)
 
 node-of-requires-2 : tie.Need-node-of-requires-2
 node-of-requires-2 c κs =
@@ -101,8 +102,8 @@ push-tree-requires c κs =
     let no-part = simp add-zero at (c .before .before .before .before .before .before .if1 .left) in (
       room z,
       (
-        rw (c .before .before .before .before .node-of2 .ensures) (readable z (getD (cs z) (i z * 7 + 4) 0) (first-named z no-part)),
-        rw (c .before .before .before .before .before .before .before .before .node-of .ensures) (readable z (getD (cs z) (i z * 7 + 6) 0) (next-named z)),
+        rw (c .before .before .before .before .node-of2 .ensures) (readable z (getD (cs z) (i z * cell-width + first-place) 0) (first-named z no-part)),
+        rw (c .before .before .before .before .before .before .before .before .node-of .ensures) (readable z (getD (cs z) (i z * cell-width + next-place) 0) (next-named z)),
       ),
     )
 
@@ -114,7 +115,7 @@ returns-2 c =
     let pushed = c .before .before in
     let no-part = simp add-zero at (c .before .before .before .before .before .before .before .before .before .if1 .left) in
     λ ws b. pushed-tree (held z) (cs z) ws (n z) (high z) (low z) (i z) (in-cells z) b (pushed .push-tree .last .0) (high z - (i z + 1) * 10)
-    (getD (held z) (i z) 0 + getD (cs z) (i z * 7 + 2) 0) (pushed .push-tree .result) refl refl (next .node-of .result) (next .node-of .ensures)
+    (getD (held z) (i z) 0 + getD (cs z) (i z * cell-width + position-place) 0) (pushed .push-tree .result) refl refl (next .node-of .result) (next .node-of .ensures)
     no-part (first .node-of2 .result) (first .node-of2 .ensures) (simp add-zero at (pushed .push-tree .ensures))
 
 pub push-cell-spec : {M : Type 1} → statement M

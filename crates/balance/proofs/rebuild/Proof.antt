@@ -8,6 +8,7 @@ use lib.ListN.{length, getD}
 use denote.Ref.{now}
 use native.Mathlib.Omega.{arith}
 use borrow.Author.Needs.{needs}
+use Rattle.tree.specs.Cells.{cell-width}
 use Rattle.balance.proofs.rebuild.Statement.{statement}
 use Rattle.balance.proofs.rebuild.Tie as tie
 
@@ -23,7 +24,7 @@ module _ (z : tie.Start) where
   ws = z .pre .0 .0
 
   abbrev n : ℕ
-  n = length cs / 7
+  n = length cs / cell-width
 
   abbrev high : ℕ
   high = z .args .high

@@ -7,6 +7,7 @@ use Prim.Native.Nat.{_+_, _-_, _*_, _≤_, _<_}
 use native.Mathlib.Omega.{arith}
 use lib.ListN.{length}
 use borrow.Author.Tests.{not-true, not-false}
+use Rattle.tree.specs.Cells.{cell-width, length-place}
 use Rattle.cells.specs.Steps.{cell-at}
 use Rattle.cells.proofs.Walking.{Walk, walk-start, walk-end}
 use Rattle.cells.proofs.Passing.{Placed, in-its-place, misplaced, breaks, fitting, passes}
@@ -51,7 +52,7 @@ module _ (r : tie.After-read-cell Inv-loop μ-loop) where
   l₃ = l₂ e₃
 
   small₃ : cell-at (now (z₁ l₃ .args .cells)) (v₁ l₃ .loop .i) .len < 4294967296
-  small₃ = omega (arith, l₃ .before .before .before .before .before .before .before .before .shared-slice-known .given (v₁ l₃ .loop .i * 7 + 3))
+  small₃ = omega (arith, l₃ .before .before .before .before .before .before .before .before .shared-slice-known .given (v₁ l₃ .loop .i * cell-width + length-place))
 
 name-if-requires : tie.Need-name-if-requires Inv-loop μ-loop
 name-if-requires c κs = omega (arith, c .before .before .before .before .pre .room)

@@ -6,12 +6,13 @@ use mathlib.Core.List.{List}
 use Prim.Native.Nat.{ℕ, _+_, _-_, _*_, _≤_, _/_}
 use native.Mathlib.Omega.{arith}
 use lib.ListN.{length}
+use Rattle.tree.specs.Cells.{cell-width}
 use Rattle.rules.specs.Calls.{items}
 use Rattle.cells.proofs.Walking.{bad-empty, bad-ragged, bad-none, bad-some}
 use Rattle.cells.proofs.tree_check.Statement.{statement}
 use Rattle.cells.proofs.tree_check.Tie as tie
 
-room : (cs ws : List ℕ) (m : ℕ) → 96 * items cs ws + 96 ≤ m → length cs / 7 * 5 + 8 + length ws ≤ m
+room : (cs ws : List ℕ) (m : ℕ) → 96 * items cs ws + 96 ≤ m → length cs / cell-width * 5 + 8 + length ws ≤ m
 unfolding items
 room cs ws m h = omega arith
 
@@ -51,7 +52,7 @@ returns-3 c =
     let i1 = c .before .before .before .before .before .before .before .before .before .before .before .if1 in
     let i2 = c .before .before .before .before .before .before .before .before .before .before .if2 in
     let r = c .before .before .before .check-cells in
-    bad-none (a .types) (a .start) (a .parts) (now (a .cells)) (now (a .words)) (length (now (a .cells)) / 7) (r .result) (i1 .left) (i2 .left) refl (r .ensures) (c .if3 .taken)
+    bad-none (a .types) (a .start) (a .parts) (now (a .cells)) (now (a .words)) (length (now (a .cells)) / cell-width) (r .result) (i1 .left) (i2 .left) refl (r .ensures) (c .if3 .taken)
 
 returns-4 : tie.Need-returns-4
 returns-4 c =
@@ -59,7 +60,7 @@ returns-4 c =
     let i1 = c .before .before .before .before .before .before .before .before .before .before .before .if1 in
     let i2 = c .before .before .before .before .before .before .before .before .before .before .if2 in
     let r = c .before .before .before .check-cells in
-    bad-some (a .types) (a .start) (a .parts) (now (a .cells)) (now (a .words)) (length (now (a .cells)) / 7) (r .result) (i1 .left) (i2 .left) refl (r .ensures) (c .if3 .left)
+    bad-some (a .types) (a .start) (a .parts) (now (a .cells)) (now (a .words)) (length (now (a .cells)) / cell-width) (r .result) (i1 .left) (i2 .left) refl (r .ensures) (c .if3 .left)
 
 pub tree-check-spec : {M : Type 1} → statement M
 tree-check-spec =

@@ -7,6 +7,7 @@ use mathlib.Core.List.{List}
 use Prim.Native.Nat.{ℕ, _-_, _*_, _+_}
 use native.Mathlib.Omega.{arith}
 use lib.ListN.{length, getD}
+use Rattle.tree.specs.Cells.{cell-width, first-place, next-place}
 use Rattle.listing.specs.Steps.{Lent}
 use Rattle.listing.proofs.Turns.{noted-length}
 use Rattle.listing.proofs.Writes.{Pass, Found, top-fits, first-fits, pass-first, out-length, pass-end, pass-turn}
@@ -90,7 +91,7 @@ loop-again c =
     let links = c .before .before .note-links in
     let words = i .before .before .before .before .before .shared-slice-known2 .given in
     found-at i .goes-on (put .last .1 .1 .1 .1 .1 .0) (links .last .1 .1 .1 .1 .1 .0) (put .result) (put .ensures .0) (put .ensures .1) (links .ensures)
-    (omega (arith, words (k₁ i * 7 + 4))) (omega (arith, words (k₁ i * 7 + 6)))
+    (omega (arith, words (k₁ i * cell-width + first-place))) (omega (arith, words (k₁ i * cell-width + next-place)))
 
 same-length-2 : tie.Need-same-length-2 Inv-loop μ-loop
 same-length-2 c = out-length (lent-at (c .before .before)) (c .before .loop .inv)

@@ -9,6 +9,7 @@ use denote.Ref.{now}
 use Rattle.materialize.specs.Steps.{cells-before}
 use Rattle.materialize.proofs.Finishing.{before-more, before-mono}
 use borrow.Author.Needs.{needs}
+use Rattle.tree.specs.Cells.{cell-width}
 use Rattle.materialize.proofs.count_cells.Statement.{statement}
 use Rattle.materialize.proofs.count_cells.Tie as tie
 
@@ -37,7 +38,7 @@ module _ (c : tie.After-cell-weight Inv-loop μ-loop) where
 
 add-total : tie.Need-add-total Inv-loop μ-loop
 add-total c =
-    let n = length (cs c) / 7 in
+    let n = length (cs c) / cell-width in
     omega (arith, sum c, before-mono (cs c) (i c + 1) n (omega (arith, c .before .before .before .loop-test .taken)), c .before .before .before .before .before .before .pre)
 
 loop-less : tie.Need-loop-less Inv-loop μ-loop
@@ -49,7 +50,7 @@ loop-again c = (omega (arith, c .before .before .before .loop-test .taken), sum 
 returns : tie.Need-returns Inv-loop μ-loop
 returns c =
     let z = c .before .before .before in
-    let e : c .before .loop .i ≡ length (now (z .args .cells)) / 7 = omega (arith, c .before .loop .inv .0, c .loop-test .left) in
+    let e : c .before .loop .i ≡ length (now (z .args .cells)) / cell-width = omega (arith, c .before .loop .inv .0, c .loop-test .left) in
     c .before .loop .inv .1 ∙ ap (λ (k : ℕ). cells-before (now (z .args .cells)) k) e
 
 pub count-cells-spec : {M : Type 1} → statement M

@@ -6,10 +6,11 @@ use lib.ListN.{length}
 use Prim.Native.Nat.{_+_, _*_, _-_, _<_}
 use Rattle.materialize.specs.Steps.{ended}
 use borrow.Author.Needs.{needs}
+use Rattle.tree.specs.Cells.{cell-width, next-place}
 use Rattle.materialize.proofs.end_links.Statement.{statement}
 use Rattle.materialize.proofs.end_links.Tie as tie
 
-at-end : (c : tie.After-index) → c .index .result * 7 + 6 < length (now (c .before .before .before .before .before .args .out))
+at-end : (c : tie.After-index) → c .index .result * cell-width + next-place < length (now (c .before .before .before .before .before .args .out))
 at-end c = rw (c .index .ensures) (c .before .before .before .before .before .pre .1 (omega (arith, c .before .before .if1 .left)))
 
 returns : tie.Need-returns

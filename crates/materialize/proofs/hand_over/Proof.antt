@@ -6,6 +6,7 @@ use lib.ListN.{length}
 use denote.Ref.{now}
 use Rattle.materialize.proofs.Handing.{Going, going-start, going-reads, going-fits, going-next, going-limit, going-none}
 use borrow.Author.Needs.{needs}
+use Rattle.tree.specs.Cells.{cell-width, position-place}
 use Rattle.materialize.proofs.hand_over.Statement.{statement}
 use Rattle.materialize.proofs.hand_over.Tie as tie
 
@@ -69,7 +70,7 @@ module _ (r : tie.After-index Inv-loop μ-loop) where
   abbrev root : ℕ
   root = r .index .result
 
-  position-inside : root * 7 + 2 < length (out loop-before)
+  position-inside : root * cell-width + position-place < length (out loop-before)
   position-inside =
       going-fits (held loop-before) (out₀ loop-before) (out loop-before) (low loop-before) (sp loop-before) (limit loop-before) (start loop-before) (left loop-before)
       (going loop-before) (given loop-before .pre) (more turn) root (r .index .ensures)

@@ -1,13 +1,14 @@
 -- `materialize::place_part` meets its contract: the records of the part stand before the siblings behind it. Assumes nothing.
 use native.Mathlib.Omega.{arith}
-use lib.ListN.{take, drop, getD}
-use Prim.Native.Nat.{ℕ, _+_, _-_, _*_, _/_, _≤_}
+use lib.ListN.{take, drop}
+use Prim.Native.Nat.{ℕ, _+_, _-_, _/_, _≤_}
 use mathlib.Core.List.{List}
 use mathlib.Core.Path.{_≡_, ap}
 use denote.Ref.{now}
 use Rattle.materialize.specs.Steps.{part-at, Next-part, Packed}
 use Rattle.materialize.proofs.Placing.{part-ready, part-few, part-wrote}
 use borrow.Author.Needs.{needs}
+use Rattle.tree.specs.Cells.{cell-position, cell-first, cell-count}
 use Rattle.materialize.proofs.place_part.Statement.{statement}
 use Rattle.materialize.proofs.place_part.Tie as tie
 
@@ -62,15 +63,15 @@ module _ (c : tie.After-index2) where
   first = cell - count / 4
 
   part-is : part ≡ part-at cs ws i
-  part-is = cut-same ws from count (getD cs (i * 7 + 4) 0) (getD cs (i * 7 + 5) 0) (c .before .before .index .ensures) (c .index2 .ensures)
+  part-is = cut-same ws from count (cell-first cs i) (cell-count cs i) (c .before .before .index .ensures) (c .index2 .ensures)
 
-  first-is : first ≡ cell - getD cs (i * 7 + 5) 0 / 4
+  first-is : first ≡ cell - cell-count cs i / 4
   first-is = ap (λ (x : ℕ). cell - x / 4) (c .index2 .ensures)
 
-  few : (trees ≤ 4294967295) × (getD cs (i * 7 + 5) 0 / 4 ≤ cell)
+  few : (trees ≤ 4294967295) × (cell-count cs i / 4 ≤ cell)
   few = part-few held out cs ws total i cell trees marks part first part-is first-is next
 
-  packed : Packed held out first (getD cs (i * 7 + 2) 0) trees part
+  packed : Packed held out first (cell-position cs i) trees part
   packed = part-ready held out cs ws total i cell trees marks part first part-is first-is next
 
 sub-first : tie.Need-sub-first

@@ -1,14 +1,14 @@
 -- `materialize::place_tree` meets its contract: the tree takes up its children and stands before its siblings. Assumes nothing.
 use native.Mathlib.Nat.{add-zero}
 use native.Mathlib.Omega.{arith}
-use Prim.Native.Nat.{ℕ, _+_, _-_, _*_, _≤_, _<_}
+use Prim.Native.Nat.{ℕ, _-_, _≤_, _<_}
 use mathlib.Core.List.{List}
 use mathlib.Core.Path.{_≡_, ap, _∙_}
-use lib.ListN.{getD}
 use denote.Ref.{now}
 use Rattle.materialize.specs.Steps.{Taken, Next-cell, trees-left}
 use Rattle.materialize.proofs.Placing.{tree-ready, tree-few, tree-wrote}
 use borrow.Author.Needs.{needs}
+use Rattle.tree.specs.Cells.{cell-count}
 use Rattle.materialize.proofs.place_tree.Statement.{statement}
 use Rattle.materialize.proofs.place_tree.Tie as tie
 
@@ -47,7 +47,7 @@ module _ (c : tie.After-staying) where
   abbrev next : Next-cell held out cs total i cell trees marks
   next = c .before .before .before .before .before .before .before .before .pre
 
-  left-is : left ≡ marks - getD cs (i * 7 + 5) 0
+  left-is : left ≡ marks - cell-count cs i
   left-is = c .before .before .remaining .ensures ∙ ap (λ (x : ℕ). marks - x) (c .before .before .before .index .ensures)
 
   kept-is : kept ≡ trees-left held total trees marks left

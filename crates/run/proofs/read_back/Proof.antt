@@ -12,6 +12,7 @@ use Rattle.listing.specs.declared.Listed.the-variants as Listed
 use Rattle.run.proofs.Fitting.{materialise-fits}
 use Rattle.run.proofs.Stepping.{result, read-refused, read-listed}
 use borrow.Author.Needs.{needs}
+use Rattle.tree.specs.Cells.{cell-width}
 use Rattle.run.proofs.read_back.Statement.{statement}
 use Rattle.run.proofs.read_back.Tie as tie
 
@@ -21,7 +22,7 @@ module _ (m : tie.After-materialize) where
   z₁ = m .before .before .before .before .before .before .before .before
 
   -- its counted cells stand in its output
-  fits-at : (n : ℕ) → m .materialize .result ≡ Materialized.Cells n → 7 * n ≤ length (m .materialize .last .1 .1 .1 .1 .0)
+  fits-at : (n : ℕ) → m .materialize .result ≡ Materialized.Cells n → cell-width * n ≤ length (m .materialize .last .1 .1 .1 .1 .0)
   fits-at n e = omega (arith, materialise-fits (z₁ .args .types) (now (z₁ .args .cells)) (now (z₁ .args .words)) (length (now (z₁ .args .work))) (now (z₁ .args .trees)) (result (materialized-outcome (m .materialize .result)) (m .materialize .last .1 .1 .1 .1 .0 ∷ [])) n 0 (m .materialize .ensures) (ap materialized-outcome e), m .materialize .kept .1 .1 .1 .1 .0)
 
 mul-made : tie.Need-mul-made
@@ -31,7 +32,7 @@ slice-reshare-prefix-made : tie.Need-slice-reshare-prefix-made
 slice-reshare-prefix-made c = fits-at (c .before .before .before .before .before .before .before) (c .before .count .given .0 .0) (c .before .count .given .1)
 
 slice-aggregate-made : tie.Need-slice-aggregate-made
-slice-aggregate-made c = sym (length-take-le (7 * c .before .before .count .given .0 .0) (c .before .before .before .before .before .before .before .before .materialize .last .1 .1 .1 .1 .0) (fits-at (c .before .before .before .before .before .before .before .before) (c .before .before .count .given .0 .0) (c .before .before .count .given .1)))
+slice-aggregate-made c = sym (length-take-le (cell-width * c .before .before .count .given .0 .0) (c .before .before .before .before .before .before .before .before .materialize .last .1 .1 .1 .1 .0) (fits-at (c .before .before .before .before .before .before .before .before) (c .before .before .count .given .0 .0) (c .before .before .count .given .1)))
 
 returns : tie.Need-returns
 returns c =

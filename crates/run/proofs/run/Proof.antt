@@ -12,6 +12,7 @@ use Rattle.run.specs.declared.Read.the-variants as Read
 use Rattle.run.proofs.Fitting.{build-fits}
 use Rattle.run.proofs.Stepping.{result, run-refused, run-read}
 use borrow.Author.Needs.{needs}
+use Rattle.tree.specs.Cells.{cell-width}
 use Rattle.run.proofs.run.Statement.{statement}
 use Rattle.run.proofs.run.Tie as tie
 
@@ -30,7 +31,7 @@ module _ (b : tie.After-build) where
   work₁ = length (b .build .last .1 .1 .1 .1 .1 .1 .1 .0)
 
   -- its counts stand in its outputs
-  fits-at : (n m : ℕ) → b .build .result ≡ Built.Cells n m → (7 * n ≤ length cells₁) × (m ≤ length words₁)
+  fits-at : (n m : ℕ) → b .build .result ≡ Built.Cells n m → (cell-width * n ≤ length cells₁) × (m ≤ length words₁)
   fits-at n m e =
       let a = z₁ .args in
       let f = build-fits (a .types) (a .first-repeat) (a .bound) (a .start) (a .top) (given-length (a .given)) (length (now (a .work))) (now (a .records)) (now (a .cells)) (now (a .words)) (result (built-outcome (b .build .result)) (cells₁ ∷ words₁ ∷ [])) n m (b .build .ensures) (ap built-outcome e) in
@@ -46,7 +47,7 @@ slice-reshare-prefix-built : tie.Need-slice-reshare-prefix-built
 slice-reshare-prefix-built c = (fits-at (c .before .before .before .before .before .before .before .before .before) (c .before .count .given .0 .0) (c .before .count .given .0 .1 .0) (c .before .count .given .1)) .0
 
 slice-aggregate-built : tie.Need-slice-aggregate-built
-slice-aggregate-built c = sym (length-take-le (7 * c .before .before .count .given .0 .0) (cells₁ (c .before .before .before .before .before .before .before .before .before .before)) ((fits-at (c .before .before .before .before .before .before .before .before .before .before) (c .before .before .count .given .0 .0) (c .before .before .count .given .0 .1 .0) (c .before .before .count .given .1)) .0))
+slice-aggregate-built c = sym (length-take-le (cell-width * c .before .before .count .given .0 .0) (cells₁ (c .before .before .before .before .before .before .before .before .before .before)) ((fits-at (c .before .before .before .before .before .before .before .before .before .before) (c .before .before .count .given .0 .0) (c .before .before .count .given .0 .1 .0) (c .before .before .count .given .1)) .0))
 
 slice-reshare-prefix-parts : tie.Need-slice-reshare-prefix-parts
 slice-reshare-prefix-parts c = (fits-at (c .before .before .before .before .before .before .before .before .before .before) (c .before .before .count .given .0 .0) (c .before .before .count .given .0 .1 .0) (c .before .before .count .given .1)) .1

@@ -1,6 +1,6 @@
 -- `store::write_cells` meets its contract: the cells and words done stand at the front of the outputs. Assumes nothing.
 use native.Mathlib.Nat.{add-zero}
-use Rattle.store.proofs.Writer.{Going, going-same, going-start, total, out-same, words-same, going-end, going-pop, node-inside, cell-next, cell-room, part-ready, TreeReady, tree-ready, going-tree, going-part}
+use Rattle.store.proofs.Writer.{Going, going-same, going-start, total, out-same, words-same, going-end, going-pop, node-inside, cells-left, cell-room, part-ready, TreeReady, tree-ready, going-tree, going-part}
 use Rattle.store.proofs.Flow.{Later, end}
 use Rattle.words.specs.Words.{put}
 use Rattle.store.specs.Store.{told, tree-cell, Writable, Wrote, PartReady, PartWritten}
@@ -12,6 +12,7 @@ use Prim.Native.Nat.{ℕ, _+_, _-_, _*_, _≤_}
 use denote.Ref.{now}
 use mathlib.Core.List.{List, [], _∷_}
 use mathlib.Core.Path.{_≡_, sym, _∙_}
+use Rattle.tree.specs.Cells.{cell-width}
 use Rattle.store.proofs.write_cells.Statement.{statement}
 use Rattle.store.proofs.write_cells.Tie as tie
 
@@ -85,9 +86,9 @@ module _ (e : tie.After-index2 Inv-loop μ-loop) where
   inside-at = node-inside (W₀ m₂) (s₁ m₂ .args .top) (s₁ m₂ .args .root) (s₁ m₂ .args .start) (O₀ m₂) (V₀ m₂) (p₁ m₂) (m₂ .loop .work) (m₂ .loop .out) (m₂ .loop .words) n₂ (m₂ .loop .from) (m₂ .loop .sp) (m₂ .loop .cell) (m₂ .loop .word) (now₁ m₂) (later₁ m₂) going-2 live-2
 
   next-at : m₂ .loop .cell + 1 ≤ nodes (p₁ m₂ .trees)
-  next-at = cell-next (W₀ m₂) (s₁ m₂ .args .top) (s₁ m₂ .args .root) (s₁ m₂ .args .start) (O₀ m₂) (V₀ m₂) (p₁ m₂) (m₂ .loop .work) (m₂ .loop .out) (m₂ .loop .words) n₂ (m₂ .loop .from) (m₂ .loop .sp) (m₂ .loop .cell) (m₂ .loop .word) (now₁ m₂) (later₁ m₂) going-2 live-2
+  next-at = cells-left (W₀ m₂) (s₁ m₂ .args .top) (s₁ m₂ .args .root) (s₁ m₂ .args .start) (O₀ m₂) (V₀ m₂) (p₁ m₂) (m₂ .loop .work) (m₂ .loop .out) (m₂ .loop .words) n₂ (m₂ .loop .from) (m₂ .loop .sp) (m₂ .loop .cell) (m₂ .loop .word) (now₁ m₂) (later₁ m₂) going-2 live-2
 
-  room-at : m₂ .loop .cell * 7 + 7 ≤ length (m₂ .loop .out)
+  room-at : m₂ .loop .cell * cell-width + cell-width ≤ length (m₂ .loop .out)
   room-at = cell-room (W₀ m₂) (s₁ m₂ .args .top) (s₁ m₂ .args .root) (s₁ m₂ .args .start) (O₀ m₂) (V₀ m₂) (p₁ m₂) (m₂ .loop .work) (m₂ .loop .out) (m₂ .loop .words) n₂ (m₂ .loop .from) (m₂ .loop .sp) (m₂ .loop .cell) (m₂ .loop .word) (now₁ m₂) (later₁ m₂) going-2 live-2
 
   part-at : getD (m₂ .loop .work) n₂ 0 ≡ 2 → PartReady (m₂ .loop .work) n₂ (m₂ .loop .cell) (length (m₂ .loop .out)) (m₂ .loop .word) (length (m₂ .loop .words))
@@ -100,7 +101,7 @@ module _ (e : tie.After-index2 Inv-loop μ-loop) where
       → (m₂ .loop .word + r ≤ length (V₀ m₂)) × ((ts : Trees) × (rest : Later) × Going (W₀ m₂) (s₁ m₂ .args .top) (s₁ m₂ .args .root) (s₁ m₂ .args .start) (O₀ m₂) (V₀ m₂) (p₁ m₂) (m₂ .loop .work) out′ words′ (getD (m₂ .loop .work) (n₂ + 5) 0) (m₂ .loop .from) (m₂ .loop .sp) (m₂ .loop .cell + 1) (m₂ .loop .word + r) ts rest)
   part-over k out′ words′ r h = going-part (W₀ m₂) (s₁ m₂ .args .top) (s₁ m₂ .args .root) (s₁ m₂ .args .start) (O₀ m₂) (V₀ m₂) (p₁ m₂) (m₂ .loop .work) (m₂ .loop .out) (m₂ .loop .words) n₂ (m₂ .loop .from) (m₂ .loop .sp) (m₂ .loop .cell) (m₂ .loop .word) out′ (now₁ m₂) (later₁ m₂) going-2 live-2 k words′ r h
 
-  tree-over : (getD (m₂ .loop .work) n₂ 0 ≡ 2 → ⊥) → (out′ w′ : List ℕ) → out′ ≡ put (m₂ .loop .out) (m₂ .loop .cell * 7) (tree-cell (m₂ .loop .work) n₂ (m₂ .loop .from) (m₂ .loop .cell))
+  tree-over : (getD (m₂ .loop .work) n₂ 0 ≡ 2 → ⊥) → (out′ w′ : List ℕ) → out′ ≡ put (m₂ .loop .out) (m₂ .loop .cell * cell-width) (tree-cell (m₂ .loop .work) n₂ (m₂ .loop .from) (m₂ .loop .cell))
       → w′ ≡ put (m₂ .loop .work) (m₂ .loop .sp) (getD (m₂ .loop .work) (n₂ + 5) 0 ∷ m₂ .loop .from ∷ [])
       → (ts : Trees) × (rest : Later) × Going (W₀ m₂) (s₁ m₂ .args .top) (s₁ m₂ .args .root) (s₁ m₂ .args .start) (O₀ m₂) (V₀ m₂) (p₁ m₂) w′ out′ (m₂ .loop .words) (getD (m₂ .loop .work) (n₂ + 4) 0) (getD (m₂ .loop .work) (n₂ + 2) 0) (m₂ .loop .sp + 2) (m₂ .loop .cell + 1) (m₂ .loop .word) ts rest
   tree-over k out′ w′ h f = going-tree (W₀ m₂) (s₁ m₂ .args .top) (s₁ m₂ .args .root) (s₁ m₂ .args .start) (O₀ m₂) (V₀ m₂) (p₁ m₂) (m₂ .loop .work) (m₂ .loop .out) (m₂ .loop .words) n₂ (m₂ .loop .from) (m₂ .loop .sp) (m₂ .loop .cell) (m₂ .loop .word) out′ (now₁ m₂) (later₁ m₂) going-2 live-2 k w′ h f

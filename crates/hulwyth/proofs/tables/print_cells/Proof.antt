@@ -3,11 +3,12 @@ use borrow.Author.Needs.{needs}
 use mathlib.Core.Path.{_≡_}
 use Prim.Native.Nat.{_-_, _≤_, _/_}
 use lib.ListN.{length}
+use Rattle.tree.specs.Cells.{cell-width}
 use Rattle.hulwyth.proofs.tables.print_cells.Statement.{statement}
 use Rattle.hulwyth.proofs.tables.print_cells.Tie as tie
 
 abbrev Inv-loop : tie.InvT-loop
-Inv-loop page₀ cells count i₀ t7 t8 page i = (i ≤ count) × (count ≡ length cells / 7) × (length page ≡ length page₀)
+Inv-loop page₀ cells count i₀ t7 t8 page i = (i ≤ count) × (count ≡ length cells / cell-width) × (length page ≡ length page₀)
 
 abbrev μ-loop : tie.MeasureT-loop
 μ-loop page₀ cells count i₀ t7 t8 page i = count - i
