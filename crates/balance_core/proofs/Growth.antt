@@ -206,9 +206,6 @@ module _ {w : List ℕ} {node k kd i : ℕ} (m : ℕ) (p : Row w node k kd i) wh
         let some-tree : 1 ≤ siblings (rest ⊕ p .tail) = omega (arith, left-over, siblings-⊕ rest (p .tail)) in
         rw (p .kind-is) (sizable w (p .base) (p .top) (p .low) next (p .type) (rest ⊕ p .tail) (p .inside) some-tree (g .next-is))
 
-    pub growing-few : count ≤ k
-    growing-few = omega (arith, left-over)
-
     -- the group is the whole row
     pub growing-end : k ≤ count → Grouped w node k kd i m p count size next end
     unfolding groups groups-from
