@@ -9,7 +9,7 @@ use native.Mathlib.Omega.{arith}
 use lib.Dec.{T, ltb, ltb→lt, eqb→eq, eqb-refl}
 use Rattle.tree.specs.Trees.{Trees, nil, tree, part, _⊕_, kids-of}
 use Rattle.tree.specs.Listing.{node-line, node-below}
-use Rattle.tree.specs.Balance.{same-type, all-of, total, share, grows, groups-from, groups, lone, is-tree, joined, placed, each, divide, balance}
+use Rattle.tree.specs.Balance.{SetType, under, equal-types, type-under, same-type, all-of, total, share, grows, groups-from, groups, lone, is-tree, joined, placed, each, divide, balance}
 use Rattle.tree.proofs.ListingLaws.{⊕-assoc, view, view-⊕, view-nil, view-tree}
 use Rattle.tree.proofs.PackLaws.{line-repeat, below-repeat}
 
@@ -26,7 +26,7 @@ view-hidden F d (some i) s l kids rest h =
     rw (view-tree F d (some i) s l kids rest, line-repeat F d i s (s + l) h, below-repeat F d i h)
 
 -- the groups side by side are the siblings
-module _ (t : Option ℕ) (m : ℕ) where
+module _ (t : SetType) (m : ℕ) where
   groups-step : (cur : Trees) (n : ℕ) (c rest : Trees) (w : ℕ) (x : Bool)
       → each (λ g. g) (groups-from t m (cur ⊕ c) (n + w) rest) ≡ (cur ⊕ c) ⊕ rest
       → each (λ g. g) (groups-from t m c w rest) ≡ c ⊕ rest
@@ -53,8 +53,8 @@ module _ (t : Option ℕ) (m : ℕ) where
   each-groups (part s l ws rest) = each-groups-from (part s l ws nil) 1 rest
 
 -- a type that equals a hidden one is hidden
-pub same-hidden : (F : ℕ) (t u : Option ℕ) → T (same-type t u) → Hidden F t → Hidden F u
-unfolding same-type
+pub same-hidden : (F : ℕ) (t u : Option ℕ) → T (equal-types t u) → Hidden F t → Hidden F u
+unfolding equal-types
 same-hidden F none none e h = tt
 same-hidden F none (some i) e h = absurd e
 same-hidden F (some r) none e h = absurd e
@@ -68,20 +68,20 @@ one-big : (x y : Bool) (k : ℕ) → 1 < elim (x && y) [ true ↦ suc k | false 
 one-big true y k h = tt
 one-big false y k h = absurd (omega arith)
 
-pub total-pos-tree : (t u : Option ℕ) (s l : ℕ) (kids rest : Trees) → 1 ≤ total t (tree u s l kids rest)
+pub total-pos-tree : (t : SetType) (u : Option ℕ) (s l : ℕ) (kids rest : Trees) → 1 ≤ total t (tree u s l kids rest)
 unfolding total
 total-pos-tree t u s l kids rest = one-pos (same-type t u && all-of t kids) (total t kids) (total t rest)
 
-pub total-pos-part : (t : Option ℕ) (s l : ℕ) (ws : List ℕ) (rest : Trees) → 1 ≤ total t (part s l ws rest)
+pub total-pos-part : (t : SetType) (s l : ℕ) (ws : List ℕ) (rest : Trees) → 1 ≤ total t (part s l ws rest)
 unfolding total
 total-pos-part t s l ws rest = omega arith
 
-pub total-part : (t : Option ℕ) (s l : ℕ) (ws : List ℕ) → total t (part s l ws nil) ≡ 1
+pub total-part : (t : SetType) (s l : ℕ) (ws : List ℕ) → total t (part s l ws nil) ≡ 1
 unfolding total
 total-part t s l ws = refl
 
 -- a lone tree of a size above 1 is of the balance type
-big-same : (t u : Option ℕ) (s l : ℕ) (kids : Trees) → 1 < total t (tree u s l kids nil) → T (same-type t u)
+big-same : (t : SetType) (u : Option ℕ) (s l : ℕ) (kids : Trees) → 1 < total t (tree u s l kids nil) → T (same-type t u)
 unfolding total
 big-same t u s l kids h = one-big (same-type t u) (all-of t kids) (total t kids) h
 
@@ -89,13 +89,16 @@ pub share-pos : (n : ℕ) → 1 ≤ n → 1 ≤ share n
 unfolding share
 share-pos n h = omega arith
 
-same-refl : (t : Option ℕ) → T (same-type t t)
-unfolding same-type
-same-refl none = tt
-same-refl (some i) = eqb-refl i
+equal-refl : (t : Option ℕ) → T (equal-types t t)
+unfolding equal-types
+equal-refl none = tt
+equal-refl (some i) = eqb-refl i
+
+pub same-refl : (t : SetType) → T (same-type t (t .type))
+same-refl t = equal-refl (type-under (t .none-first) (t .type))
 
 -- Whatever is read off siblings one after the other, and passes through trees of the balance type t, is kept.
-module _ (off : Trees → List ℕ) (off-nil : off nil ≡ []) (off-⊕ : (ts us : Trees) → off (ts ⊕ us) ≡ off ts ++ off us) (t : Option ℕ)
+module _ (off : Trees → List ℕ) (off-nil : off nil ≡ []) (off-⊕ : (ts us : Trees) → off (ts ⊕ us) ≡ off ts ++ off us) (t : SetType)
     (off-open : (u : Option ℕ) (s l : ℕ) (kids rest : Trees) → T (same-type t u) → off (tree u s l kids rest) ≡ off kids ++ off rest) where
   kept-each : (f : Trees → Trees) (gs : List Trees) → ((g : Trees) → off (f g) ≡ off g) → off (each f gs) ≡ off (each (λ g. g) gs)
   unfolding each
@@ -106,9 +109,9 @@ module _ (off : Trees → List ℕ) (off-nil : off nil ≡ []) (off-⊕ : (ts us
   unfolding joined
   kept-joined s l kids = go (is-tree t s l kids)
     where
-      go : (x : Bool) → off (elim x [ true ↦ kids | false ↦ tree t s l kids nil ]) ≡ off kids
+      go : (x : Bool) → off (elim x [ true ↦ kids | false ↦ tree (t .type) s l kids nil ]) ≡ off kids
       go true = refl
-      go false = rw (off-open t s l kids nil (same-refl t), off-nil) (append-nil (off kids))
+      go false = rw (off-open (t .type) s l kids nil (same-refl t), off-nil) (append-nil (off kids))
 
   module _ (again : ℕ → Trees → Trees) (keeps : (m : ℕ) (ts : Trees) → 1 ≤ m → off (again m ts) ≡ off ts) where
     kept-several : (g : Trees) (s l : ℕ) → 1 ≤ total t g → off (joined t s l (again (share (total t g)) g)) ≡ off g
@@ -160,6 +163,6 @@ module _ (off : Trees → List ℕ) (off-nil : off nil ≡ []) (off-⊕ : (ts us
   kept-balance s l ts = kept-joined s l (divide (suc (total t ts)) t (share (total t ts)) ts) ∙ kept-divided (total t ts) ts
 
 -- so the listing is, where the balance type is not listed itself
-pub view-balance : (F d : ℕ) (t : Option ℕ) → Hidden F t → (s l : ℕ) (ts : Trees) → view F d (balance t t s l ts) ≡ view F d ts
+pub view-balance : (F d : ℕ) (t : Option ℕ) → Hidden F t → (s l : ℕ) (ts : Trees) → view F d (balance (under false t) (under false t) s l ts) ≡ view F d ts
 view-balance F d t hidden s l ts =
-    kept-balance (view F d) (view-nil F d) (view-⊕ F d) t (λ u s′ l′ kids rest same. view-hidden F d u s′ l′ kids rest (same-hidden F t u same hidden)) s l ts
+    kept-balance (view F d) (view-nil F d) (view-⊕ F d) (under false t) (λ u s′ l′ kids rest same. view-hidden F d u s′ l′ kids rest (same-hidden F t u same hidden)) s l ts

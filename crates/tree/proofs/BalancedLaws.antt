@@ -1,6 +1,6 @@
--- `Tree::balance`: up to 8 children are untouched; else the top stays and its children are divided. Listed nodes keep
--- id, range, order and depth, packed words and the cell rules stay. Nine or more children never end as one, so the top
--- is never taken away. Assumes nothing.
+-- `Tree::balance`: up to 8 children are untouched; else the top stays and its children are divided. Packed words and the cell
+-- rules stay. Listed nodes keep id, range, order and depth, but for id 0 where place 0 of the set is none: the lines without id 0
+-- are the same. Nine or more children never end as one, so the top is never taken away. Assumes nothing.
 use mathlib.Core.Path.{_≡_, refl, sym, ap, subst, _∙_}
 use mathlib.Core.Bool.{Bool, true, false, _&&_}
 use mathlib.Core.List.{List, [], _∷_, _++_, append-nil}
@@ -13,8 +13,8 @@ use lib.Dec.{T as So, ltb, leb, ltb→lt}
 use lib.ListN.{length}
 use borrow.Author.Tests.{le-leb, lt-leb}
 use Rattle.tree.specs.Trees.{Trees, nil, tree, part, _⊕_, nodes, siblings, kids-of, first-start, last-end}
-use Rattle.tree.specs.Balance.{same-type, all-of, total, share, groups, lone, is-tree, joined, placed, each, divide, balance, balanced}
-use Rattle.tree.specs.Listing.{node-line, node-below}
+use Rattle.tree.specs.Balance.{SetType, under, type-under, equal-types, same-type, all-of, total, share, groups, lone, is-tree, joined, placed, each, divide, balance, balanced}
+use Rattle.tree.specs.Listing.{node-line, node-below, listing, lines}
 use Rattle.tree.specs.Cells.{relative, packed, cells, tree-cells}
 use Rattle.tree.specs.Calls.{written, materialise-cells, balance-cells, list-cells}
 use Rattle.tree.proofs.ListingLaws.{view, view-⊕, view-nil, view-tree}
@@ -34,7 +34,7 @@ siblings-⊕ nil us = omega arith
 siblings-⊕ (tree t s l kids rest) us = omega (arith, siblings-⊕ rest us)
 siblings-⊕ (part s l ws rest) us = omega (arith, siblings-⊕ rest us)
 
-module _ (t : Option ℕ) where
+module _ (t : SetType) where
   some-siblings : (ts : Trees) → 1 ≤ total t ts → 1 ≤ siblings ts
   unfolding total siblings
   some-siblings nil h = absurd (omega arith)
@@ -50,7 +50,7 @@ module _ (t : Option ℕ) where
   unfolding joined siblings
   some-joined s l kids h = go (is-tree t s l kids)
     where
-      go : (x : Bool) → 1 ≤ siblings (elim x [ true ↦ kids | false ↦ tree t s l kids nil ])
+      go : (x : Bool) → 1 ≤ siblings (elim x [ true ↦ kids | false ↦ tree (t .type) s l kids nil ])
       go true = h
       go false = omega arith
 
@@ -101,113 +101,133 @@ several (part s l ws nil) h = absurd (omega arith)
 several (part s l ws (tree u′ s′ l′ kids′ rest)) h = refl
 several (part s l ws (part s′ l′ ws′ rest)) h = refl
 
-not-alone : (t : Option ℕ) (s l : ℕ) (ts : Trees) → lone ts ≡ false → is-tree t s l ts ≡ false
+not-alone : (t : SetType) (s l : ℕ) (ts : Trees) → lone ts ≡ false → is-tree t s l ts ≡ false
 unfolding is-tree
 not-alone t s l nil o = refl
 not-alone t s l (tree u s′ l′ kids rest) o = rw o
 not-alone t s l (part s′ l′ ws rest) o = refl
 
-joined-several : (t : Option ℕ) (s l : ℕ) (ts : Trees) → lone ts ≡ false → joined t s l ts ≡ tree t s l ts nil
+joined-several : (t : SetType) (s l : ℕ) (ts : Trees) → lone ts ≡ false → joined t s l ts ≡ tree (t .type) s l ts nil
 unfolding joined
 joined-several t s l ts o = rw (not-alone t s l ts o, joined)
 
--- the children of a balanced tree that has more than 8
-unfoldable pub divided : Trees → Trees
-divided kids = divide (suc (total none kids)) none (share (total none kids)) kids
-
-pub untouched : (t : Option ℕ) (s l : ℕ) (kids rest : Trees) → siblings kids ≤ 8 → balanced (tree t s l kids rest) ≡ tree t s l kids rest
-unfolding balanced
-untouched t s l kids rest h = rw (le-leb (siblings kids) 8 h, balanced)
-
-pub wide : (t : Option ℕ) (s l : ℕ) (kids rest : Trees) → 8 < siblings kids → balanced (tree t s l kids rest) ≡ tree t s l (divided kids) rest
-unfolding balanced balance divided _⊕_
-wide t s l kids rest h =
-    let two = several-divided none (total none kids) kids (several kids (omega arith)) in
-    rw (lt-leb (siblings kids) 8 h, balanced) (ap (λ (u : Trees). u ⊕ rest) (joined-several t s l (divide (suc (total none kids)) none (share (total none kids)) kids) (several _ two)))
-
--- the children of a balanced tree
-unfoldable pub rebuilt : Trees → Trees
-rebuilt kids = elim (leb (siblings kids) 8) [ true ↦ kids | false ↦ divided kids ]
-
--- the top stays
-pub balanced-is : (t : Option ℕ) (s l : ℕ) (kids rest : Trees) → balanced (tree t s l kids rest) ≡ tree t s l (rebuilt kids) rest
-unfolding rebuilt
-balanced-is t s l kids rest = go (decLe (siblings kids) 8)
+-- no balanced size is above the number of cells
+pub total-nodes : (t : SetType) (ts : Trees) → total t ts ≤ nodes ts
+unfolding total nodes
+total-nodes t nil = le-refl 0
+total-nodes t (tree u s l kids rest) = go (same-type t u && all-of t kids) (total-nodes t kids) (total-nodes t rest)
   where
-    go : Dec (siblings kids ≤ 8) → balanced (tree t s l kids rest) ≡ tree t s l (elim (leb (siblings kids) 8) [ true ↦ kids | false ↦ divided kids ]) rest
-    go (yes h) = untouched t s l kids rest h ∙ rw (le-leb (siblings kids) 8 h)
-    go (no h) = wide t s l kids rest (omega arith) ∙ rw (lt-leb (siblings kids) 8 (omega arith))
+    go : (x : Bool) → total t kids ≤ nodes kids → total t rest ≤ nodes rest → elim x [ true ↦ suc (total t kids) | false ↦ 1 ] + total t rest ≤ suc (nodes kids + nodes rest)
+    go true h h′ = omega arith
+    go false h h′ = omega arith
+total-nodes t (part s l ws rest) = omega (arith, total-nodes t rest)
 
-size-divided : (kids : Trees) → 1 ≤ total none kids → size one (divided kids) ≤ size one kids + total none kids
-unfolding divided
-size-divided kids pos =
-    let n = total none kids in
-    omega (arith, size-divide one none (suc n) (share n) kids (share-pos n pos) (share-≤ n) (le-refl (suc n)))
+-- a type that counts as none
+counts-none : (f : Bool) (u : Option ℕ) → So (same-type (under f none) u) → type-under f u ≡ none
+unfolding equal-types
+counts-none false none e = refl
+counts-none false (some i) e = absurd e
+counts-none true none e = refl
+counts-none true (some zero) e = refl
+counts-none true (some (suc i)) e = absurd e
 
--- Whatever is read off siblings one after the other and passes through trees of `NodeType::none` is kept.
-module _ (off : Trees → List ℕ) (off-nil : off nil ≡ []) (off-⊕ : (ts us : Trees) → off (ts ⊕ us) ≡ off ts ++ off us)
-    (off-none : (s l : ℕ) (kids rest : Trees) → off (tree none s l kids rest) ≡ off kids ++ off rest) where
-  open-type : (u : Option ℕ) (s l : ℕ) (kids rest : Trees) → So (same-type none u) → off (tree u s l kids rest) ≡ off kids ++ off rest
-  unfolding same-type
-  open-type none s l kids rest e = off-none s l kids rest
-  open-type (some i) s l kids rest e = absurd e
+module _ (f : Bool) where
+  -- the balance type
+  abbrev t : SetType
+  t = under f none
 
-  pub divided-keeps : (kids : Trees) → off (divided kids) ≡ off kids
-  unfolding divided
-  divided-keeps kids = kept-divided off off-nil off-⊕ none open-type (total none kids) kids
+  -- the children of a balanced tree that has more than 8
+  unfoldable pub divided : Trees → Trees
+  divided kids = divide (suc (total t kids)) t (share (total t kids)) kids
 
-  pub rebuilt-keeps : (kids : Trees) → off (rebuilt kids) ≡ off kids
+  pub untouched : (top : Option ℕ) (s l : ℕ) (kids rest : Trees) → siblings kids ≤ 8 → balanced f (tree top s l kids rest) ≡ tree top s l kids rest
+  unfolding balanced
+  untouched top s l kids rest h = rw (le-leb (siblings kids) 8 h, balanced)
+
+  pub wide : (top : Option ℕ) (s l : ℕ) (kids rest : Trees) → 8 < siblings kids → balanced f (tree top s l kids rest) ≡ tree top s l (divided kids) rest
+  unfolding balanced balance divided _⊕_
+  wide top s l kids rest h =
+      let two = several-divided t (total t kids) kids (several kids (omega arith)) in
+      rw (lt-leb (siblings kids) 8 h, balanced)
+      (ap (λ (u : Trees). u ⊕ rest) (joined-several (under f top) s l (divide (suc (total t kids)) t (share (total t kids)) kids) (several _ two)))
+
+  -- the children of a balanced tree
+  unfoldable pub rebuilt : Trees → Trees
+  rebuilt kids = elim (leb (siblings kids) 8) [ true ↦ kids | false ↦ divided kids ]
+
+  -- the top stays
+  pub balanced-is : (top : Option ℕ) (s l : ℕ) (kids rest : Trees) → balanced f (tree top s l kids rest) ≡ tree top s l (rebuilt kids) rest
   unfolding rebuilt
-  rebuilt-keeps kids = go (leb (siblings kids) 8)
+  balanced-is top s l kids rest = go (decLe (siblings kids) 8)
     where
-      go : (x : Bool) → off (elim x [ true ↦ kids | false ↦ divided kids ]) ≡ off kids
-      go true = refl
-      go false = divided-keeps kids
+      go : Dec (siblings kids ≤ 8) → balanced f (tree top s l kids rest) ≡ tree top s l (elim (leb (siblings kids) 8) [ true ↦ kids | false ↦ divided kids ]) rest
+      go (yes h) = untouched top s l kids rest h ∙ rw (le-leb (siblings kids) 8 h)
+      go (no h) = wide top s l kids rest (omega arith) ∙ rw (lt-leb (siblings kids) 8 (omega arith))
 
--- The lines of the materialised tree: each ordinary node keeps its id, its range, its place in the order and its depth,
--- so the nearest ordinary node around it.
-view-rebuilt : (F d S : ℕ) (kids : Trees) → view F d (shift S (rebuilt kids)) ≡ view F d (shift S kids)
-unfolding shift
-view-rebuilt F d S kids =
-    rebuilt-keeps (λ ts. view F d (shift S ts)) (view-nil F d) (λ ts us. ap (view F d) (shift-⊕ S ts us) ∙ view-⊕ F d (shift S ts) (shift S us))
-    (λ s l ks r. view-hidden F d none (S + s) l (shift S ks) (shift S r) tt) kids
+  size-divided : (kids : Trees) → 1 ≤ total t kids → size one (divided kids) ≤ size one kids + total t kids
+  unfolding divided
+  size-divided kids pos =
+      let n = total t kids in
+      omega (arith, size-divide one t (suc n) (share n) kids (share-pos n pos) (share-≤ n) (le-refl (suc n)))
 
-pub view-balanced : (F d : ℕ) (ts : Trees) → view F d (balanced ts) ≡ view F d ts
-unfolding balanced
-view-balanced F d nil = refl
-view-balanced F d (part s l ws rest) = refl
-view-balanced F d (tree t s l kids rest) =
-    let d′ = node-below F d t in
-    let same : view F d′ (rebuilt kids) ≡ view F d′ kids = ap (view F d′) (sym (shift-zero (rebuilt kids))) ∙ (view-rebuilt F d′ 0 kids ∙ ap (view F d′) (shift-zero kids)) in
-    ap (view F d) (balanced-is t s l kids rest)
-    ∙ (view-tree F d t s l (rebuilt kids) rest ∙ (ap (λ ls. (node-line F d t s (s + l) ++ ls) ++ view F d rest) same ∙ sym (view-tree F d t s l kids rest)))
+  -- Whatever is read off siblings one after the other and passes through trees that count as `NodeType::none` is kept.
+  module _ (off : Trees → List ℕ) (off-nil : off nil ≡ []) (off-⊕ : (ts us : Trees) → off (ts ⊕ us) ≡ off ts ++ off us)
+      (off-none : (u : Option ℕ) (s l : ℕ) (kids rest : Trees) → type-under f u ≡ none → off (tree u s l kids rest) ≡ off kids ++ off rest) where
+    pub divided-keeps : (kids : Trees) → off (divided kids) ≡ off kids
+    unfolding divided
+    divided-keeps kids = kept-divided off off-nil off-⊕ t (λ u s l ks r e. off-none u s l ks r (counts-none f u e)) (total t kids) kids
 
--- the packed words
-packed-rebuilt : (kids : Trees) → packed (rebuilt kids) ≡ packed kids
-unfolding packed
-packed-rebuilt kids = rebuilt-keeps packed refl packed-⊕ (λ s l ks r. refl) kids
+    pub rebuilt-keeps : (kids : Trees) → off (rebuilt kids) ≡ off kids
+    unfolding rebuilt
+    rebuilt-keeps kids = go (leb (siblings kids) 8)
+      where
+        go : (x : Bool) → off (elim x [ true ↦ kids | false ↦ divided kids ]) ≡ off kids
+        go true = refl
+        go false = divided-keeps kids
 
-pub packed-balanced : (ts : Trees) → packed (balanced ts) ≡ packed ts
-unfolding balanced packed
-packed-balanced nil = refl
-packed-balanced (part s l ws rest) = refl
-packed-balanced (tree t s l kids rest) = ap packed (balanced-is t s l kids rest) ∙ ap (λ ws. ws ++ packed rest) (packed-rebuilt kids)
+  -- the packed words
+  packed-rebuilt : (kids : Trees) → packed (rebuilt kids) ≡ packed kids
+  unfolding packed
+  packed-rebuilt kids = rebuilt-keeps packed refl packed-⊕ (λ u s l ks r e. refl) kids
 
--- ids and ranges
-sound-rebuilt : (T lo hi : ℕ) (kids : Trees) → Sound T lo hi kids → Sound T lo hi (rebuilt kids)
-unfolding rebuilt divided
-sound-rebuilt T lo hi kids w = go (leb (siblings kids) 8)
-  where
-    go : (x : Bool) → Sound T lo hi (elim x [ true ↦ kids | false ↦ divide (suc (total none kids)) none (share (total none kids)) kids ])
-    go true = w
-    go false = well-divide T (Parts T) none tt (suc (total none kids)) (share (total none kids)) lo hi kids w
+  pub packed-balanced : (ts : Trees) → packed (balanced f ts) ≡ packed ts
+  unfolding balanced packed
+  packed-balanced nil = refl
+  packed-balanced (part s l ws rest) = refl
+  packed-balanced (tree top s l kids rest) = ap packed (balanced-is top s l kids rest) ∙ ap (λ ws. ws ++ packed rest) (packed-rebuilt kids)
 
--- On cells and words that keep the cell rules: what balancing writes keeps them, and lists the same.
-module _ (T hi : ℕ) (cs ws : List ℕ) (k : Kept T hi cs ws) where
-  pub balance-keeps : Kept T hi ((balance-cells cs ws) .cells) ((balance-cells cs ws) .words)
+  -- ids and ranges
+  sound-rebuilt : (T lo hi : ℕ) (kids : Trees) → Sound T lo hi kids → Sound T lo hi (rebuilt kids)
+  unfolding rebuilt divided
+  sound-rebuilt T lo hi kids w = go (leb (siblings kids) 8)
+    where
+      go : (x : Bool) → Sound T lo hi (elim x [ true ↦ kids | false ↦ divide (suc (total t kids)) t (share (total t kids)) kids ])
+      go true = w
+      go false = well-divide T (Parts T) t tt (suc (total t kids)) (share (total t kids)) lo hi kids w
+
+  -- balancing not quite doubles the cells
+  pub few-balanced : (top : Option ℕ) (s l : ℕ) (kids : Trees) → nodes (balanced f (tree top s l kids nil)) ≤ 2 * nodes kids + 1
+  unfolding nodes
+  few-balanced top s l kids = go (decLe (siblings kids) 8)
+    where
+      go : Dec (siblings kids ≤ 8) → nodes (balanced f (tree top s l kids nil)) ≤ 2 * nodes kids + 1
+      go (yes h) = omega (arith, ap nodes (untouched top s l kids nil h))
+      go (no h) =
+          let pos = several-pos t kids (several kids (omega arith)) in
+          omega (
+            arith,
+            ap nodes (wide top s l kids nil (omega arith)),
+            size-one kids,
+            size-one (divided kids),
+            size-divided kids pos,
+            total-nodes t kids,
+          )
+
+  -- On cells and words that keep the cell rules: what balancing writes keeps them.
+  pub balance-keeps : (T hi : ℕ) (cs ws : List ℕ) → Kept T hi cs ws → Kept T hi ((balance-cells f cs ws) .cells) ((balance-cells f cs ws) .words)
   unfolding balance-cells written tree-cells packed
-  balance-keeps =
-      let same = ap balanced (kept-read T hi cs ws k) ∙ balanced-is (some (k .top)) 0 (k .length) (k .kids) nil in
+  balance-keeps T hi cs ws k =
+      let same = ap (balanced f) (kept-read T hi cs ws k) ∙ balanced-is (some (k .top)) 0 (k .length) (k .kids) nil in
       record {
         top = k .top;
         length = k .length;
@@ -218,39 +238,6 @@ module _ (T hi : ℕ) (cs ws : List ℕ) (k : Kept T hi cs ws) where
         words-are = ap packed same ∙ append-nil (packed (rebuilt (k .kids)));
       }
 
-  pub balance-lists : (F S : ℕ) → T ≤ 65536
-      → list-cells F S (materialise-cells ((balance-cells cs ws) .cells) ((balance-cells cs ws) .words)) ≡ list-cells F S (materialise-cells cs ws)
+  pub kids-rebuilt : (T hi : ℕ) (cs ws : List ℕ) (k : Kept T hi cs ws) → (balance-keeps T hi cs ws k) .kids ≡ rebuilt (k .kids)
   unfolding balance-keeps
-  balance-lists F S types =
-      kept-lines T hi F S types ((balance-cells cs ws) .cells) ((balance-cells cs ws) .words) balance-keeps
-      ∙ (view-rebuilt F 0 S (k .kids) ∙ sym (kept-lines T hi F S types cs ws k))
-
--- no balanced size is above the number of cells
-pub total-nodes : (t : Option ℕ) (ts : Trees) → total t ts ≤ nodes ts
-unfolding total nodes
-total-nodes t nil = le-refl 0
-total-nodes t (tree u s l kids rest) = go (same-type t u && all-of t kids) (total-nodes t kids) (total-nodes t rest)
-  where
-    go : (x : Bool) → total t kids ≤ nodes kids → total t rest ≤ nodes rest → elim x [ true ↦ suc (total t kids) | false ↦ 1 ] + total t rest ≤ suc (nodes kids + nodes rest)
-    go true h h′ = omega arith
-    go false h h′ = omega arith
-total-nodes t (part s l ws rest) = omega (arith, total-nodes t rest)
-
--- so balancing not quite doubles the cells
-pub few-balanced : (t : Option ℕ) (s l : ℕ) (kids : Trees) → nodes (balanced (tree t s l kids nil)) ≤ 2 * nodes kids + 1
-unfolding nodes
-few-balanced t s l kids = go (decLe (siblings kids) 8)
-  where
-    go : Dec (siblings kids ≤ 8) → nodes (balanced (tree t s l kids nil)) ≤ 2 * nodes kids + 1
-    go (yes h) = omega (arith, ap nodes (untouched t s l kids nil h))
-    go (no h) =
-        let n = total none kids in
-        let pos = several-pos none kids (several kids (omega arith)) in
-        omega (
-          arith,
-          ap nodes (wide t s l kids nil (omega arith)),
-          size-one kids,
-          size-one (divided kids),
-          size-divided kids pos,
-          total-nodes none kids,
-        )
+  kids-rebuilt T hi cs ws k = refl

@@ -12,7 +12,7 @@ use Rattle.records.specs.Forest.{levels}
 use Rattle.records.specs.Parse.{parse}
 use Rattle.records.specs.Check.{Accepted}
 use Rattle.tree.specs.Trees.{Trees, nil, tree, _⊕_, siblings, kids-of, first-start, last-end}
-use Rattle.tree.specs.Balance.{same-type, all-of, total, share, grows, groups-from, groups, lone, is-tree, joined, placed, each, divide, balance, balanced}
+use Rattle.tree.specs.Balance.{equal-types, all-of, total, share, grows, groups-from, groups, lone, is-tree, joined, placed, each, divide, balance, balanced}
 use Rattle.tree.specs.Flat.{Record, rec, hold, limit, full, ends}
 use Rattle.tree.specs.Run.{Run}
 use Rattle.tree.proofs.Table.{leaves}
@@ -27,8 +27,8 @@ abbrev pub one-wide : (n : ℕ) → Trees
 one-wide n = tree (some 0) 0 (n + 3) (leaves n 0 ⊕ tree none n 3 (tree none n 1 nil (tree none (n + 1) 1 nil (tree none (n + 2) 1 nil nil))) nil) nil
 
 -- `Tree::balance` "leaves up to 8 children untouched": eight stay, nine become six
-pub eight-untouched : (balanced (one-wide 7) ≡ one-wide 7) × (siblings (kids-of (balanced (one-wide 8))) ≡ 6)
-unfolding leaves _⊕_ siblings kids-of first-start last-end same-type all-of total share grows groups-from groups lone is-tree joined placed each divide balance balanced
+pub eight-untouched : (balanced false (one-wide 7) ≡ one-wide 7) × (siblings (kids-of (balanced false (one-wide 8))) ≡ 6)
+unfolding leaves _⊕_ siblings kids-of first-start last-end equal-types all-of total share grows groups-from groups lone is-tree joined placed each divide balance balanced
 eight-untouched = (refl, refl)
 
 -- "records above 4 words are dropped; 4-word records .. go to a flat part": one of 4 words is held, sets the limit and may end a

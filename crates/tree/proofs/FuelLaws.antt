@@ -9,10 +9,10 @@ use native.Mathlib.Omega.{arith}
 use native.Mathlib.Nat.{le-refl}
 use lib.Dec.{T as So, ltb, ltb→lt}
 use Rattle.tree.specs.Trees.{Trees, nil, tree, part, _⊕_, kids-of, first-start, last-end}
-use Rattle.tree.specs.Balance.{same-type, all-of, total, share, grows, groups-from, groups, lone, joined, placed, each, divide}
+use Rattle.tree.specs.Balance.{SetType, same-type, all-of, total, share, grows, groups-from, groups, lone, joined, placed, each, divide}
 use Rattle.tree.proofs.BalanceLaws.{total-pos-tree, total-pos-part, total-part, share-pos}
 
-pub total-⊕ : (t : Option ℕ) (ts us : Trees) → total t (ts ⊕ us) ≡ total t ts + total t us
+pub total-⊕ : (t : SetType) (ts us : Trees) → total t (ts ⊕ us) ≡ total t ts + total t us
 unfolding total _⊕_
 total-⊕ t nil us = omega arith
 total-⊕ t (tree u s l kids rest) us = go (same-type t u && all-of t kids) (total-⊕ t rest us)
@@ -29,7 +29,7 @@ grows-below : (n w m : ℕ) → grows n w m ≡ true → n + w < m
 unfolding grows
 grows-below n w m x = ltb→lt _ _ (subst So (sym x) tt)
 
-module _ (t : Option ℕ) (m : ℕ) where
+module _ (t : SetType) (m : ℕ) where
   -- A group is a lone child, or its total is below the share; it is part of siblings of the total n.
   pub record Group (n : ℕ) (g : Trees) : Type 0 where
     pub small : lone g ≡ false → total t g < m
@@ -83,7 +83,7 @@ module _ (t : Option ℕ) (m : ℕ) where
       groups-small-from c 1 (total t (part s l ws rest)) rest (le-refl 1) (total-part t s l ws) (λ o. absurd (true≢false o)) (omega (arith, total-⊕ t c rest, total-part t s l ws))
 
 -- a lone child's children weigh less than it
-pub total-kids : (t : Option ℕ) (g : Trees) → 1 < total t g → lone g ≡ true → suc (total t (kids-of g)) ≡ total t g
+pub total-kids : (t : SetType) (g : Trees) → 1 < total t g → lone g ≡ true → suc (total t (kids-of g)) ≡ total t g
 unfolding total kids-of lone
 total-kids t nil h o = absurd (omega arith)
 total-kids t (tree u s l kids nil) h o = go (same-type t u && all-of t kids) h
@@ -101,18 +101,18 @@ pub share-≤ : (n : ℕ) → share n ≤ n
 unfolding share
 share-≤ n = omega arith
 
-pub several-pos : (t : Option ℕ) (g : Trees) → lone g ≡ false → 1 ≤ total t g
+pub several-pos : (t : SetType) (g : Trees) → lone g ≡ false → 1 ≤ total t g
 unfolding lone
 several-pos t nil o = absurd (true≢false o)
 several-pos t (tree u s l kids rest) o = total-pos-tree t u s l kids rest
 several-pos t (part s l ws rest) o = total-pos-part t s l ws rest
 
-each-same : (t : Option ℕ) (m n : ℕ) (f f′ : Trees → Trees) (gs : List Trees) → Groups t m n gs → ((g : Trees) → Group t m n g → f g ≡ f′ g) → each f gs ≡ each f′ gs
+each-same : (t : SetType) (m n : ℕ) (f f′ : Trees → Trees) (gs : List Trees) → Groups t m n gs → ((g : Trees) → Group t m n g → f g ≡ f′ g) → each f gs ≡ each f′ gs
 unfolding each
 each-same t m n f f′ [] a h = refl
 each-same t m n f f′ (g ∷ gs) a h = ap₂ _⊕_ (h g (a .0)) (each-same t m n f f′ gs (a .1) h)
 
-module _ (t : Option ℕ) where
+module _ (t : SetType) where
   placed-same : (m n : ℕ) (again again′ : ℕ → Trees → Trees) (g : Trees) → 1 ≤ m → m ≤ n → Group t m n g
       → ((m′ : ℕ) (ts : Trees) → 1 ≤ m′ → m′ ≤ total t ts → total t ts < n → again m′ ts ≡ again′ m′ ts)
       → placed again t m g ≡ placed again′ t m g
@@ -139,11 +139,11 @@ module _ (t : Option ℕ) where
       (λ m₁ ts₁ pos₁ le₁ lt₁. enough n n′ m₁ ts₁ pos₁ le₁ (omega arith) (omega arith)))
 
 -- Siblings divided with as much fuel as they need: no law after this one looks at it.
-unfoldable pub divided-by : (t : Option ℕ) (m : ℕ) → Trees → Trees
+unfoldable pub divided-by : (t : SetType) (m : ℕ) → Trees → Trees
 divided-by t m ts = divide (suc (total t ts)) t m ts
 
 -- groups first, and each is placed, divided in turn by the same rule
-pub divided-again : (t : Option ℕ) (m : ℕ) (ts : Trees) → 1 ≤ m → m ≤ total t ts → divided-by t m ts ≡ each (placed (divided-by t) t m) (groups t m ts)
+pub divided-again : (t : SetType) (m : ℕ) (ts : Trees) → 1 ≤ m → m ≤ total t ts → divided-by t m ts ≡ each (placed (divided-by t) t m) (groups t m ts)
 unfolding divided-by divide
 divided-again t m ts pos le =
     each-same t m (total t ts) (placed (λ m₁ ts₁. divide (total t ts) t m₁ ts₁) t m) (placed (λ m₁ ts₁. divide (suc (total t ts₁)) t m₁ ts₁) t m) (groups t m ts) (groups-small t m ts)

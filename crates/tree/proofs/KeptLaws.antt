@@ -135,16 +135,25 @@ module _ (T hi : ℕ) (cs ws : List ℕ) (k : Kept T hi cs ws) where
         words-are = sym (packed-plain T 0 hi (materialise (k .kids)) plain);
       }
 
+-- cells without packed words, read back with S added
+pub kept-from : (T hi S : ℕ) (cs : List ℕ) (k : Kept T hi cs []) → absolute S (decode [] cs) ≡ shift S (tree (some (k .top)) 0 (k .length) (k .kids) nil)
+kept-from T hi S cs k =
+    let u = tree (some (k .top)) 0 (k .length) (k .kids) nil in
+    ap (absolute S) (kept-decode T hi cs [] k)
+    ∙ (ap (λ q. absolute q (relative 0 u)) (sym (add-zero S))
+    ∙ (absolute-shift S 0 (relative 0 u) ∙ ap (shift S) (ap (absolute 0) (sym (kept-decode T hi cs [] k)) ∙ kept-read T hi cs [] k)))
+
+-- what materialise wrote, read back so
+pub materialised-from : (T hi S : ℕ) → T ≤ 65536 → (cs ws : List ℕ) (k : Kept T hi cs ws)
+    → absolute S (decode [] (materialise-cells cs ws)) ≡ shift S (tree (some (k .top)) 0 (k .length) (materialise (k .kids)) nil)
+unfolding materialise-keeps
+materialised-from T hi S types cs ws k = kept-from T hi S (materialise-cells cs ws) (materialise-keeps T hi cs ws k types)
+
 module _ (T hi F S : ℕ) where
   -- listing of cells without packed words
   pub kept-listed : (cs : List ℕ) (k : Kept T hi cs []) → list-cells F S cs ≡ listing F 0 (shift S (k .kids))
   unfolding list-cells lines kids-of shift
-  kept-listed cs k =
-      let u = tree (some (k .top)) 0 (k .length) (k .kids) nil in
-      let a : absolute S (relative 0 u) ≡ shift S u =
-      ap (λ q. absolute q (relative 0 u)) (sym (add-zero S))
-      ∙ (absolute-shift S 0 (relative 0 u) ∙ ap (shift S) (ap (absolute 0) (sym (kept-decode T hi cs [] k)) ∙ kept-read T hi cs [] k)) in
-      ap (λ (v : Trees). lines F (absolute S v)) (kept-decode T hi cs [] k) ∙ ap (lines F) a
+  kept-listed cs k = ap (lines F) (kept-from T hi S cs k)
 
   -- listing of what materialise wrote: the lines of the tree, counted from S
   pub kept-lines : T ≤ 65536 → (cs ws : List ℕ) (k : Kept T hi cs ws) → list-cells F S (materialise-cells cs ws) ≡ view F 0 (shift S (k .kids))

@@ -31,5 +31,6 @@ pub mod MaterialiseLaws
 pub mod PartLaws
 pub mod PartReadBack
 pub mod BalancedLaws
+pub mod BalanceLists
 pub mod RunLaws
 pub mod Stores

@@ -11,13 +11,13 @@ use Rattle.records.specs.Forest.{Forest, empty, add, count}
 use Rattle.records.proofs.ParseLaws.{and-left}
 use Rattle.tree.specs.Trees.{Trees, nil, tree, part, _⊕_, is-nil}
 use Rattle.tree.specs.Items.{Items, mark, span, same, repeats, items}
-use Rattle.tree.specs.Balance.{same-type, all-of, total, lone, is-tree, joined, balance}
+use Rattle.tree.specs.Balance.{SetType, under, equal-types, same-type, all-of, total, lone, is-tree, joined, balance}
 use Rattle.tree.specs.Groups.{Gathered, close, rest-closed, finish}
 use Rattle.tree.proofs.BalanceLaws.{total-pos-tree, total-pos-part}
 use Rattle.tree.proofs.FuelLaws.{total-⊕}
 use Rattle.tree.specs.Well.{own-total}
 
-module _ (t : Option ℕ) where
+module _ (t : SetType) where
   own-nil : total t nil ≤ own-total t nil
   unfolding total own-total
   own-nil = le-refl 0
@@ -54,13 +54,13 @@ module _ (t : Option ℕ) where
       go false y e = omega arith
 
 -- some siblings have a size
-pub total-some : (t : Option ℕ) (ts : Trees) → is-nil ts ≡ false → 1 ≤ total t ts
+pub total-some : (t : SetType) (ts : Trees) → is-nil ts ≡ false → 1 ≤ total t ts
 unfolding is-nil
 total-some t nil h = absurd (true≢false h)
 total-some t (tree u s l kids rest) h = total-pos-tree t u s l kids rest
 total-some t (part s l ws rest) h = total-pos-part t s l ws rest
 
-pub total-rest-closed : (t : Option ℕ) (i s : ℕ) (g : Gathered) → is-nil (g .groups) ≡ false → 1 ≤ total t ((rest-closed i s g) .groups)
+pub total-rest-closed : (t : SetType) (i s : ℕ) (g : Gathered) → is-nil (g .groups) ≡ false → 1 ≤ total t ((rest-closed i s g) .groups)
 unfolding rest-closed close
 total-rest-closed t i s g h = go (is-nil (g .loose))
   where
@@ -69,20 +69,20 @@ total-rest-closed t i s g h = go (is-nil (g .loose))
     go false = total-pos-tree t (some i) s (g .edge - s) (g .loose) (g .groups)
 
 -- a finished tree has its record's id
-same-some : (own : Option ℕ) (i : ℕ) → same-type own (some i) ≡ same own i
-unfolding same-type same
+same-some : (own : Option ℕ) (i : ℕ) → equal-types own (some i) ≡ same own i
+unfolding equal-types same
 same-some none i = refl
 same-some (some r) i = refl
 
 -- a type that is not the own one, and one equal to it
-other-type : (own : Option ℕ) (i : ℕ) (u : Option ℕ) → same own i ≡ false → So (same-type (some i) u) → same-type own u ≡ false
-unfolding same-type same
+other-type : (own : Option ℕ) (i : ℕ) (u : Option ℕ) → same own i ≡ false → So (equal-types (some i) u) → equal-types own u ≡ false
+unfolding equal-types same
 other-type none i none h e = absurd e
 other-type none i (some j) h e = refl
 other-type (some r) i none h e = refl
 other-type (some r) i (some j) h e = rw (eqb→eq i j e) at h
 
-pub own-tree : (own : Option ℕ) (u : Option ℕ) (s l : ℕ) (kids : Trees) → same-type own u ≡ false → own-total own (tree u s l kids nil) ≡ 0
+pub own-tree : (own : SetType) (u : Option ℕ) (s l : ℕ) (kids : Trees) → same-type own u ≡ false → own-total own (tree u s l kids nil) ≡ 0
 unfolding own-total
 own-tree own u s l kids h = go (same-type own u) h
   where
@@ -90,28 +90,28 @@ own-tree own u s l kids h = go (same-type own u) h
     go true h = absurd (true≢false h)
     go false h = refl
 
-own-alone : (own : Option ℕ) (i s l : ℕ) (ts : Trees) → same own i ≡ false → So (is-tree (some i) s l ts) → own-total own ts ≡ 0
+own-alone : (own : Option ℕ) (i s l : ℕ) (ts : Trees) → same own i ≡ false → So (is-tree (under false (some i)) s l ts) → own-total (under false own) ts ≡ 0
 unfolding is-tree lone
 own-alone own i s l nil h e = absurd e
-own-alone own i s l (tree u s′ l′ kids nil) h e = own-tree own u s′ l′ kids (other-type own i u h (and-left (same-type (some i) u) (eqb s s′ && eqb l l′) e))
+own-alone own i s l (tree u s′ l′ kids nil) h e = own-tree (under false own) u s′ l′ kids (other-type own i u h (and-left (equal-types (some i) u) (eqb s s′ && eqb l l′) e))
 own-alone own i s l (tree u s′ l′ kids (tree u″ s″ l″ kids″ rest)) h e = absurd e
 own-alone own i s l (tree u s′ l′ kids (part s″ l″ ws rest)) h e = absurd e
 own-alone own i s l (part s′ l′ ws rest) h e = absurd e
 
-own-joined : (own : Option ℕ) (i s l : ℕ) (kids : Trees) → same own i ≡ false → own-total own (joined (some i) s l kids) ≡ 0
+own-joined : (own : Option ℕ) (i s l : ℕ) (kids : Trees) → same own i ≡ false → own-total (under false own) (joined (under false (some i)) s l kids) ≡ 0
 unfolding joined
-own-joined own i s l kids h = go (is-tree (some i) s l kids) refl
+own-joined own i s l kids h = go (is-tree (under false (some i)) s l kids) refl
   where
-    go : (x : Bool) → is-tree (some i) s l kids ≡ x → own-total own (elim x [ true ↦ kids | false ↦ tree (some i) s l kids nil ]) ≡ 0
+    go : (x : Bool) → is-tree (under false (some i)) s l kids ≡ x → own-total (under false own) (elim x [ true ↦ kids | false ↦ tree (some i) s l kids nil ]) ≡ 0
     go true e = own-alone own i s l kids h (subst So (sym e) tt)
-    go false e = own-tree own (some i) s l kids (same-some own i ∙ h)
+    go false e = own-tree (under false own) (some i) s l kids (same-some own i ∙ h)
 
-pub own-finish : (own : Option ℕ) (F i s e : ℕ) (g : Gathered) → same own i ≡ false → own-total own (finish F i s e g) ≡ 0
+pub own-finish : (own : Option ℕ) (F i s e : ℕ) (g : Gathered) → same own i ≡ false → own-total (under false own) (finish F i s e g) ≡ 0
 unfolding finish balance
 own-finish own F i s e g h = go (ltb i F || is-nil (g .groups))
   where
-    go : (x : Bool) → own-total own (elim x [ true ↦ tree (some i) s (e - s) (g .loose ⊕ g .groups) nil | false ↦ balance (some i) (some i) s (e - s) ((rest-closed i s g) .groups) ]) ≡ 0
-    go true = own-tree own (some i) s (e - s) (g .loose ⊕ g .groups) (same-some own i ∙ h)
+    go : (x : Bool) → own-total (under false own) (elim x [ true ↦ tree (some i) s (e - s) (g .loose ⊕ g .groups) nil | false ↦ balance (under false (some i)) (under false (some i)) s (e - s) ((rest-closed i s g) .groups) ]) ≡ 0
+    go true = own-tree (under false own) (some i) s (e - s) (g .loose ⊕ g .groups) (same-some own i ∙ h)
     go false = own-joined own i s (e - s) _ h
 
 -- marks have the parent's own repeat id, and spans have not

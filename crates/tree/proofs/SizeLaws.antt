@@ -10,7 +10,7 @@ use native.Mathlib.Nat.{le-refl}
 use lib.Dec.{T as So, ltb, ltb→lt}
 use lib.ListN.{length}
 use Rattle.tree.specs.Trees.{Trees, nil, tree, part, _⊕_, nodes, kids-of, first-start, last-end}
-use Rattle.tree.specs.Balance.{total, share, groups, lone, is-tree, joined, placed, each, divide, balance}
+use Rattle.tree.specs.Balance.{SetType, total, share, groups, lone, is-tree, joined, placed, each, divide, balance}
 use Rattle.tree.specs.Materialise.{within, beyond, unpack, materialise}
 use Rattle.tree.proofs.ListingLaws.{⊕-nil}
 use Rattle.tree.proofs.PackLaws.{nodes-⊕}
@@ -68,7 +68,7 @@ size-⊕ c nil us = omega arith
 size-⊕ c (tree t s l kids rest) us = omega (arith, size-⊕ c rest us)
 size-⊕ c (part s l ws rest) us = omega (arith, size-⊕ c rest us)
 
-module _ (t : Option ℕ) where
+module _ (t : SetType) where
   -- several trees make two groups or more
   pub two-groups : (g : Trees) → lone g ≡ false → 2 ≤ length (groups t (share (total t g)) g)
   unfolding each lone
@@ -92,12 +92,12 @@ module _ (t : Option ℕ) where
       go (g ∷ gs) e = omega arith
 
 -- Balancing adds fewer inner trees than the total, whatever a part costs.
-module _ (c : List ℕ → ℕ) (t : Option ℕ) where
+module _ (c : List ℕ → ℕ) (t : SetType) where
   size-joined : (s l : ℕ) (kids : Trees) → size c (joined t s l kids) ≤ suc (size c kids)
   unfolding joined size
   size-joined s l kids = go (is-tree t s l kids)
     where
-      go : (x : Bool) → size c (elim x [ true ↦ kids | false ↦ tree t s l kids nil ]) ≤ suc (size c kids)
+      go : (x : Bool) → size c (elim x [ true ↦ kids | false ↦ tree (t .type) s l kids nil ]) ≤ suc (size c kids)
       go true = omega arith
       go false = omega arith
 

@@ -2,6 +2,7 @@
 -- balancing by what the calls write, which that table has by the whole calls. Here the edits of these definitions meet them.
 -- Computed. Assumes nothing.
 use mathlib.Core.Path.{_≡_, refl}
+use mathlib.Core.Bool.{false}
 use mathlib.Core.List.{List, [], _∷_}
 use mathlib.Core.Option.{none, some}
 use Prim.Native.Nat.{ℕ, zero, suc, _+_}
@@ -13,7 +14,7 @@ use Rattle.records.specs.Check.{own-fault, fills, record-fault, records-check, 
 use Rattle.tree.specs.Trees.{Trees, nil, tree, _⊕_, nodes, siblings, is-nil, kids-of, first-start, last-end}
 use Rattle.tree.specs.Items.{repeats, same, items, records, first, leftmost}
 use Rattle.tree.specs.Pack.{width, words, stopped, early, scan, long, packs, run-from, entry, pack, run-part}
-use Rattle.tree.specs.Balance.{same-type, all-of, total, share, grows, groups-from, groups, lone, is-tree, joined, placed, each, divide, balance, balanced}
+use Rattle.tree.specs.Balance.{equal-types, all-of, total, share, grows, groups-from, groups, lone, is-tree, joined, placed, each, divide, balance, balanced}
 use Rattle.tree.specs.Groups.{fresh, gather, close, pass, rest-closed, finish}
 use Rattle.tree.specs.Flat.{flattened, flat-words, held-end, flat-part, hold, limit, full, ends, too-deep, flat}
 use Rattle.tree.specs.Build.{walk, first-level, build}
@@ -75,7 +76,7 @@ leaves (suc n) s = tree (some 1) s 1 nil (leaves n (s + 1))
 
 -- how many children the balanced tree of n leaf trees has: the count in its first cell
 unfoldable pub children : (n : ℕ) → ℕ
-children n = getD ((balance-cells (tree-cells 0 (tree (some 0) 0 n (leaves n 0) nil)) []) .cells) 5 0
+children n = getD ((balance-cells false (tree-cells 0 (tree (some 0) 0 n (leaves n 0) nil)) []) .cells) 5 0
 
 -- the rows about builds
 abbrev pub Builds : Type 0
@@ -104,7 +105,7 @@ Builds =
     × (build-call 4 4 1024 0 0 none 96 [] (nines 7) [] ≡ record { outcome = accepted (1 ∷ 0 ∷ []); outputs = (1 ∷ 0 ∷ 0 ∷ 0 ∷ 0 ∷ 0 ∷ 0 ∷ []) ∷ [] ∷ [] })
 
 pub builds : Builds
-unfolding nines count behind nearest farther parse-from parse own-fault fills record-fault records-check in-place or-else range-fault list-range-fault list-check check _⊕_ nodes siblings is-nil kids-of first-start last-end repeats same items records first leftmost width words stopped early scan long packs run-from entry pack run-part same-type all-of total share grows groups-from groups lone is-tree joined placed each divide balance fresh gather close pass rest-closed finish flattened flat-words held-end flat-part hold limit full ends too-deep flat walk first-level build relative packed unless-none kind id-word cells tree-cells written build-cells room build-call
+unfolding nines count behind nearest farther parse-from parse own-fault fills record-fault records-check in-place or-else range-fault list-range-fault list-check check _⊕_ nodes siblings is-nil kids-of first-start last-end repeats same items records first leftmost width words stopped early scan long packs run-from entry pack run-part equal-types all-of total share grows groups-from groups lone is-tree joined placed each divide balance fresh gather close pass rest-closed finish flattened flat-words held-end flat-part hold limit full ends too-deep flat walk first-level build relative packed unless-none kind id-word cells tree-cells written build-cells room build-call
 builds = (refl, refl, refl, refl, refl, refl, refl)
 
 -- what materialising and listing write of each build of P: its ordinary reading
@@ -121,5 +122,5 @@ listings = (refl, refl, refl, refl)
 
 -- ten leaf trees balance to ten children, eleven to six
 pub balances : (children 10 ≡ 10) × (children 11 ≡ 6)
-unfolding leaves children _⊕_ nodes siblings kids-of first-start last-end same-type all-of total share grows groups-from groups lone is-tree joined placed each divide balance balanced relative absolute packed unless-none kind id-word cells tree-cells leading following cell-tree decode-from decode written balance-cells
+unfolding leaves children _⊕_ nodes siblings kids-of first-start last-end equal-types all-of total share grows groups-from groups lone is-tree joined placed each divide balance balanced relative absolute packed unless-none kind id-word cells tree-cells leading following cell-tree decode-from decode written balance-cells
 balances = (refl, refl)

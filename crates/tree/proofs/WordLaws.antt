@@ -11,7 +11,7 @@ use Rattle.records.specs.Forest.{Forest, count, behind}
 use Rattle.tree.specs.Trees.{Trees, nil, tree, part, _⊕_, is-nil}
 use Rattle.tree.specs.Items.{Items, mark, span, same, repeats, items, records, first}
 use Rattle.tree.specs.Pack.{run-from, run-part}
-use Rattle.tree.specs.Balance.{balance}
+use Rattle.tree.specs.Balance.{SetType, under, balance}
 use Rattle.tree.specs.Groups.{Gathered, fresh, gather, close, pass, rest-closed, finish}
 use Rattle.tree.specs.Flat.{too-deep, Record, rec, flattened, flat-words, held-end, flat-part, hold, limit, ends, flat}
 use Rattle.tree.specs.Build.{walk, first-level, build}
@@ -27,7 +27,7 @@ packed-⊕ (tree t s l kids rest) us = simp (packed-⊕ rest us, append-assoc)
 packed-⊕ (part s l ws rest) us = simp (packed-⊕ rest us, append-assoc)
 
 -- balancing moves no word
-packed-balance : (t : Option ℕ) (s l : ℕ) (ts : Trees) → packed (balance t t s l ts) ≡ packed ts
+packed-balance : (t : SetType) (s l : ℕ) (ts : Trees) → packed (balance t t s l ts) ≡ packed ts
 unfolding packed
 packed-balance t s l ts = kept-balance packed refl packed-⊕ t (λ u s′ l′ kids rest same. refl) s l ts
 
@@ -77,7 +77,7 @@ words-rest-closed i s g = go (is-nil (g .loose))
     go true = omega arith
     go false = omega (arith, held-tree (some i) s (g .edge - s) (g .loose) (g .groups))
 
-words-balance : (t : Option ℕ) (s l : ℕ) (ts : Trees) → held-words (balance t t s l ts) ≡ held-words ts
+words-balance : (t : SetType) (s l : ℕ) (ts : Trees) → held-words (balance t t s l ts) ≡ held-words ts
 unfolding held-words
 words-balance t s l ts = ap length (packed-balance t s l ts)
 
@@ -85,9 +85,9 @@ words-finish : (F i s e : ℕ) (g : Gathered) → held-words (finish F i s e g) 
 unfolding finish all-words
 words-finish F i s e g = go (ltb i F || is-nil (g .groups))
   where
-    go : (x : Bool) → held-words (elim x [ true ↦ tree (some i) s (e - s) (g .loose ⊕ g .groups) nil | false ↦ balance (some i) (some i) s (e - s) ((rest-closed i s g) .groups) ]) ≤ all-words g
+    go : (x : Bool) → held-words (elim x [ true ↦ tree (some i) s (e - s) (g .loose ⊕ g .groups) nil | false ↦ balance (under false (some i)) (under false (some i)) s (e - s) ((rest-closed i s g) .groups) ]) ≤ all-words g
     go true = omega (arith, held-tree (some i) s (e - s) (g .loose ⊕ g .groups) nil, held-nil, held-⊕ (g .loose) (g .groups))
-    go false = omega (arith, words-rest-closed i s g, words-balance (some i) s (e - s) ((rest-closed i s g) .groups))
+    go false = omega (arith, words-rest-closed i s g, words-balance (under false (some i)) s (e - s) ((rest-closed i s g) .groups))
 
 -- a child in front
 words-gather : (f : Trees → Trees) (g : Gathered) (n : ℕ) → ((ts : Trees) → held-words (f ts) ≤ n + held-words ts) → all-words (gather f g) ≤ n + all-words g

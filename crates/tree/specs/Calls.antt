@@ -1,5 +1,5 @@
 -- The calls: what they write, and the outcome of the build.
-use mathlib.Core.Bool.{cond}
+use mathlib.Core.Bool.{Bool, cond}
 use mathlib.Core.List.{List, [], _∷_}
 use mathlib.Core.Option.{Option}
 use Prim.Native.Nat.{ℕ, _*_}
@@ -34,9 +34,9 @@ build-cells F b S top given f = written S (build F b S top given f)
 unfoldable pub materialise-cells : (cs ws : List ℕ) → List ℕ
 materialise-cells cs ws = tree-cells 0 (materialise (absolute 0 (decode ws cs)))
 
--- what `Tree::balance` writes of cells and packed words
-unfoldable pub balance-cells : (cs ws : List ℕ) → Written
-balance-cells cs ws = written 0 (balanced (absolute 0 (decode ws cs)))
+-- what `Tree::balance` writes of cells and packed words; `none-first`: is place 0 of the set none?
+unfoldable pub balance-cells : (none-first : Bool) (cs ws : List ℕ) → Written
+balance-cells f cs ws = written 0 (balanced f (absolute 0 (decode ws cs)))
 
 -- what listing writes of cells: "absolute start and absolute end, both with S added"
 unfoldable pub list-cells : (F S : ℕ) (cs : List ℕ) → List ℕ

@@ -4,7 +4,7 @@ use mathlib.Core.Option.{some}
 use Prim.Native.Nat.{ℕ, _+_, _-_}
 use lib.Dec.{ltb, leb}
 use Rattle.tree.specs.Trees.{Trees, nil, tree, _⊕_, is-nil}
-use Rattle.tree.specs.Balance.{balance}
+use Rattle.tree.specs.Balance.{under, balance}
 
 -- the groups made, the children since then, and the last group end, each in order
 pub record Gathered : Type 0 where
@@ -33,10 +33,11 @@ pass b i e g = elim (leb (e + b) (g .edge)) [ true ↦ close i e g | false ↦ g
 unfoldable pub rest-closed : (i s : ℕ) → Gathered → Gathered
 rest-closed i s g = elim (is-nil (g .loose)) [ true ↦ g | false ↦ close i s g ]
 
--- The tree of a record from s to e: "Any group: balance", by the repeat tree's own type.
+-- The tree of a record from s to e: "Any group: balance", by the repeat tree's own type, under a set without none. The trees of a
+-- build are all of an id, so on either set it is the same (proofs/EitherSet).
 unfoldable pub finish : (F i s e : ℕ) → Gathered → Trees
 finish F i s e g =
     elim (ltb i F || is-nil (g .groups)) [
       | true ↦ tree (some i) s (e - s) (g .loose ⊕ g .groups) nil
-      | false ↦ balance (some i) (some i) s (e - s) ((rest-closed i s g) .groups)
+      | false ↦ balance (under false (some i)) (under false (some i)) s (e - s) ((rest-closed i s g) .groups)
     ]

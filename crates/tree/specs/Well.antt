@@ -9,7 +9,7 @@ use Rattle.words.specs.Words.{record-width}
 use Rattle.tree.specs.Trees.{Trees, nil, tree, part, nodes}
 use Rattle.tree.specs.Materialise.{unpack}
 use Rattle.tree.specs.Cells.{id-word}
-use Rattle.tree.specs.Balance.{same-type, total}
+use Rattle.tree.specs.Balance.{SetType, same-type, total}
 use Rattle.tree.specs.Groups.{Gathered}
 
 -- a type's id is below T
@@ -56,7 +56,7 @@ pub record Gathers (T : ℕ) (Inside : ℕ → ℕ → List ℕ → Type 0) (lo 
   pub groups : Well T Inside (g .edge) hi (g .groups)
 
 -- the sizes of the siblings that are trees of the type t
-unfoldable pub own-total : (t : Option ℕ) → Trees → ℕ
+unfoldable pub own-total : (t : SetType) → Trees → ℕ
 own-total t nil = 0
 own-total t (tree u s l kids rest) = elim (same-type t u) [ true ↦ total t (tree u s l kids nil) | false ↦ 0 ] + own-total t rest
 own-total t (part s l ws rest) = own-total t rest

@@ -1,0 +1,89 @@
+-- What balancing keeps of a listing. Without none in place 0 of the set it lists as before. With it a node of id 0 may go, and those
+-- inside it then stand one level higher; with id 0 left out of lines and of depth, in parts too, the lines are the same for every F.
+-- Assumes nothing.
+use mathlib.Core.Path.{_≡_, refl, sym, ap, ap₂, _∙_}
+use mathlib.Core.Bool.{Bool, true, false}
+use mathlib.Core.List.{List, [], _∷_, _++_}
+use mathlib.Core.Option.{Option, none, some}
+use Prim.Native.Nat.{ℕ, suc, _+_, _≤_}
+use Rattle.tree.specs.Trees.{Trees, nil, tree, part, _⊕_, kids-of}
+use Rattle.tree.specs.Materialise.{materialise}
+use Rattle.tree.specs.Listing.{node-line, node-below, listing, lines}
+use Rattle.tree.specs.Balance.{type-under}
+use Rattle.tree.specs.Cells.{absolute, decode}
+use Rattle.tree.specs.Calls.{materialise-cells, balance-cells, list-cells}
+use Rattle.tree.proofs.ListingLaws.{listing-⊕, materialise-⊕}
+use Rattle.tree.proofs.CellLaws.{shift, shift-⊕}
+use Rattle.tree.proofs.KeptLaws.{Kept, materialised-from}
+use Rattle.tree.proofs.BalancedLaws.{rebuilt, rebuilt-keeps, balance-keeps, kids-rebuilt}
+
+-- siblings with each type as it counts under a set: where place 0 of the set is none, id 0 is none
+unfoldable pub as-counted : (none-first : Bool) → Trees → Trees
+as-counted f nil = nil
+as-counted f (tree t s l kids rest) = tree (type-under f t) s l (as-counted f kids) (as-counted f rest)
+as-counted f (part s l ws rest) = part s l ws (as-counted f rest)
+
+-- the lines of cells, with id 0 left out of lines and of depth where place 0 of the set is none
+unfoldable pub list-counted : (none-first : Bool) (F S : ℕ) (cs : List ℕ) → List ℕ
+list-counted f F S cs = lines F (as-counted f (absolute S (decode [] cs)))
+
+-- without none in place 0 nothing is left out
+as-it-is : (ts : Trees) → as-counted false ts ≡ ts
+unfolding as-counted
+as-it-is nil = refl
+as-it-is (tree t s l kids rest) = ap₂ (tree t s l) (as-it-is kids) (as-it-is rest)
+as-it-is (part s l ws rest) = ap (part s l ws) (as-it-is rest)
+
+pub list-all : (F S : ℕ) (cs : List ℕ) → list-counted false F S cs ≡ list-cells F S cs
+unfolding list-counted list-cells
+list-all F S cs = ap (lines F) (as-it-is (absolute S (decode [] cs)))
+
+module _ (f : Bool) where
+  as-counted-⊕ : (ts us : Trees) → as-counted f (ts ⊕ us) ≡ as-counted f ts ⊕ as-counted f us
+  unfolding as-counted _⊕_
+  as-counted-⊕ nil us = refl
+  as-counted-⊕ (tree t s l kids rest) us = ap (tree (type-under f t) s l (as-counted f kids)) (as-counted-⊕ rest us)
+  as-counted-⊕ (part s l ws rest) us = ap (part s l ws) (as-counted-⊕ rest us)
+
+  -- what siblings come to once they are materialised, counted from S and listed without id 0
+  seen : (F d S : ℕ) → Trees → List ℕ
+  seen F d S ts = listing F d (as-counted f (shift S (materialise ts)))
+
+  seen-⊕ : (F d S : ℕ) (ts us : Trees) → seen F d S (ts ⊕ us) ≡ seen F d S ts ++ seen F d S us
+  unfolding seen
+  seen-⊕ F d S ts us =
+      ap (λ (v : Trees). listing F d (as-counted f (shift S v))) (materialise-⊕ ts us)
+      ∙ (ap (λ (v : Trees). listing F d (as-counted f v)) (shift-⊕ S (materialise ts) (materialise us))
+      ∙ (ap (listing F d) (as-counted-⊕ (shift S (materialise ts)) (shift S (materialise us)))
+      ∙ listing-⊕ F d (as-counted f (shift S (materialise ts))) (as-counted f (shift S (materialise us)))))
+
+  -- a tree that counts as none has no line, and its children keep their depth
+  seen-none : (F d S : ℕ) (u : Option ℕ) (s l : ℕ) (kids rest : Trees) → type-under f u ≡ none
+      → seen F d S (tree u s l kids rest) ≡ seen F d S kids ++ seen F d S rest
+  unfolding seen materialise shift as-counted listing node-line node-below
+  seen-none F d S u s l kids rest e = rw e
+
+  seen-rebuilt : (F d S : ℕ) (kids : Trees) → seen F d S (rebuilt f kids) ≡ seen F d S kids
+  unfolding seen materialise shift as-counted listing
+  seen-rebuilt F d S kids = rebuilt-keeps f (seen F d S) refl (seen-⊕ F d S) (seen-none F d S) kids
+
+  -- the lines of cells that keep the rules, once they are materialised
+  kept-seen : (T hi F S : ℕ) → T ≤ 65536 → (cs ws : List ℕ) (k : Kept T hi cs ws) → list-counted f F S (materialise-cells cs ws) ≡ seen F 0 S (k .kids)
+  unfolding list-counted lines kids-of seen as-counted shift
+  kept-seen T hi F S types cs ws k =
+      ap (λ (v : Trees). lines F (as-counted f v)) (materialised-from T hi S types cs ws k)
+
+  -- On cells and words that keep the cell rules: with id 0 left out where place 0 of the set is none, the materialised result lists
+  -- as the materialised tree.
+  pub balance-lists-counted : (T hi : ℕ) (cs ws : List ℕ) → Kept T hi cs ws → (F S : ℕ) → T ≤ 65536
+      → list-counted f F S (materialise-cells ((balance-cells f cs ws) .cells) ((balance-cells f cs ws) .words)) ≡ list-counted f F S (materialise-cells cs ws)
+  balance-lists-counted T hi cs ws k F S types =
+      kept-seen T hi F S types ((balance-cells f cs ws) .cells) ((balance-cells f cs ws) .words) (balance-keeps f T hi cs ws k)
+      ∙ (ap (seen F 0 S) (kids-rebuilt f T hi cs ws k) ∙ seen-rebuilt F 0 S (k .kids) ∙ sym (kept-seen T hi F S types cs ws k))
+
+-- On a set without none in place 0 balancing keeps the listing.
+pub balance-lists : (T hi : ℕ) (cs ws : List ℕ) → Kept T hi cs ws → (F S : ℕ) → T ≤ 65536
+    → list-cells F S (materialise-cells ((balance-cells false cs ws) .cells) ((balance-cells false cs ws) .words)) ≡ list-cells F S (materialise-cells cs ws)
+balance-lists T hi cs ws k F S types =
+    sym (list-all F S (materialise-cells ((balance-cells false cs ws) .cells) ((balance-cells false cs ws) .words)))
+    ∙ (balance-lists-counted false T hi cs ws k F S types ∙ list-all F S (materialise-cells cs ws))
