@@ -7,7 +7,8 @@ use mathlib.Core.Option.{Option, none}
 use mathlib.Core.Logic.{_↔_}
 use Prim.Native.Nat.{ℕ, zero, suc, _+_, _-_, _*_, _/_, _≤_}
 use native.Mathlib.Omega.{arith}
-use Rattle.tree.proofs.BalancedLaws.{balance-keeps, balance-lists}
+use Rattle.tree.proofs.BalancedLaws.{balance-keeps}
+use Rattle.tree.proofs.BalanceLists.{list-counted, balance-lists, balance-lists-counted}
 use Rattle.rules.specs.Rules.{Place}
 use Rattle.rules.specs.Lowest.{bad-cell}
 use lib.ListN.{length}
@@ -121,16 +122,21 @@ materialised-accepted T S cs ws types fits short h =
     kept-accepted T S (4294967295 - S) false (materialise-cells cs ws) [] types (omega arith)
     (materialise-keeps T (4294967295 - S) cs ws (accepted-kept T S true ws short fits cs h) types) (only-materialised cs ws)
 
--- What balance makes of accepted cells is accepted too, and lists the same once it is materialised.
-pub balanced-accepted : (T S : ℕ) (cs ws : List ℕ) → T ≤ 65536 → S ≤ 4294967295 → Short ws → bad-cell T S true cs ws ≡ none
-    → bad-cell T S true ((balance-cells cs ws) .cells) ((balance-cells cs ws) .words) ≡ none
-balanced-accepted T S cs ws types fits short h =
-    kept-accepted T S (4294967295 - S) true ((balance-cells cs ws) .cells) ((balance-cells cs ws) .words) types (omega arith)
-    (balance-keeps T (4294967295 - S) cs ws (accepted-kept T S true ws short fits cs h)) (only-true (decode ((balance-cells cs ws) .words) ((balance-cells cs ws) .cells)))
+-- What balance makes of accepted cells is accepted too.
+pub balanced-accepted : (f : Bool) (T S : ℕ) (cs ws : List ℕ) → T ≤ 65536 → S ≤ 4294967295 → Short ws → bad-cell T S true cs ws ≡ none
+    → bad-cell T S true ((balance-cells f cs ws) .cells) ((balance-cells f cs ws) .words) ≡ none
+balanced-accepted f T S cs ws types fits short h =
+    kept-accepted T S (4294967295 - S) true ((balance-cells f cs ws) .cells) ((balance-cells f cs ws) .words) types (omega arith)
+    (balance-keeps f T (4294967295 - S) cs ws (accepted-kept T S true ws short fits cs h)) (only-true (decode ((balance-cells f cs ws) .words) ((balance-cells f cs ws) .cells)))
 
+-- Once it is materialised it lists the same; where place 0 of the set is none, with id 0 left out of lines and of depth.
 pub balanced-lists : (T F S : ℕ) (cs ws : List ℕ) → T ≤ 65536 → S ≤ 4294967295 → Short ws → bad-cell T S true cs ws ≡ none
-    → list-cells F S (materialise-cells ((balance-cells cs ws) .cells) ((balance-cells cs ws) .words)) ≡ list-cells F S (materialise-cells cs ws)
+    → list-cells F S (materialise-cells ((balance-cells false cs ws) .cells) ((balance-cells false cs ws) .words)) ≡ list-cells F S (materialise-cells cs ws)
 balanced-lists T F S cs ws types fits short h = balance-lists T (4294967295 - S) cs ws (accepted-kept T S true ws short fits cs h) F S types
+
+pub balanced-lists-counted : (f : Bool) (T F S : ℕ) (cs ws : List ℕ) → T ≤ 65536 → S ≤ 4294967295 → Short ws → bad-cell T S true cs ws ≡ none
+    → list-counted f F S (materialise-cells ((balance-cells f cs ws) .cells) ((balance-cells f cs ws) .words)) ≡ list-counted f F S (materialise-cells cs ws)
+balanced-lists-counted f T F S cs ws types fits short h = balance-lists-counted f T (4294967295 - S) cs ws (accepted-kept T S true ws short fits cs h) F S types
 
 -- accepted cells are as many as the trees and parts that they are read as
 pub accepted-size : (T S : ℕ) (parts : Bool) (cs ws : List ℕ) → S ≤ 4294967295 → Short ws → bad-cell T S parts cs ws ≡ none → length cs ≡ cell-width * nodes (decode ws cs)

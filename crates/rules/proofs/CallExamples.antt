@@ -1,6 +1,7 @@
 -- The tree calls on document 01's first example, by computation: what is lent decides, and one word less is refused. Assumes
 -- nothing.
 use mathlib.Core.Path.{_≡_, refl}
+use mathlib.Core.Bool.{false}
 use mathlib.Core.List.{List, [], _∷_}
 use Prim.Native.Nat.{ℕ}
 use lib.ListN.{replicate}
@@ -25,7 +26,7 @@ materialised T cs ws work out = materialise-call T cs ws work out
 
 unfoldable balances : (T : ℕ) (cs ws : List ℕ) (work : ℕ) (out words : List ℕ) → Result
 unfolding bad-cell cells-of first-child chain chains any-part named top-broken kind-broken id-broken link-broken count-broken place-broken order-broken inside-broken end-broken part-broken stray-broken any-of broken next-named first-named words-end lowest-from top-named part-kept ranges bound earliest still part-check faults-from fault own-fault crosses items unless-bad result-room room handed-in balance-room balance-call nodes relative absolute packed unless-none kind id-word cells leading following cell-tree decode-from decode tree-cells siblings balanced balance-cells written
-balances T cs ws work out words = balance-call T cs ws work out words
+balances T cs ws work out words = balance-call T false cs ws work out words
 
 unfoldable pub listed : (T F S : ℕ) (cs : List ℕ) (work : ℕ) (out : List ℕ) → Result
 unfolding bad-cell cells-of first-child chain chains any-part named top-broken kind-broken id-broken link-broken count-broken place-broken order-broken inside-broken end-broken part-broken stray-broken any-of broken next-named first-named words-end lowest-from top-named part-kept ranges bound earliest still part-check faults-from fault own-fault crosses items unless-bad lines-room list-call absolute leading following cell-tree decode-from decode lines list-cells listing node-line node-below line depth-below kids-of

@@ -60,14 +60,14 @@ pub enough : (n w cells words : ℕ) → n ≤ 4294967295 → cell-width * n ≤
 unfolding result-room
 enough n w cells words m h k = rw (le-ltb 4294967295 n m) (room-enough n w cells words h k)
 
-pub many-items : (cs ws : List ℕ) (cells words : ℕ) → most-items < items cs ws → balance-room cs ws cells words ≡ refused 12 0
+pub many-items : (f : Bool) (cs ws : List ℕ) (cells words : ℕ) → most-items < items cs ws → balance-room f cs ws cells words ≡ refused 12 0
 unfolding balance-room
-many-items cs ws cells words h = rw (lt-ltb most-items (items cs ws) h)
+many-items f cs ws cells words h = rw (lt-ltb most-items (items cs ws) h)
 
-pub few-items : (cs ws : List ℕ) (cells words : ℕ) → items cs ws ≤ most-items
-    → balance-room cs ws cells words ≡ result-room (nodes (balanced (handed-in cs ws))) (length ((balance-cells cs ws) .words)) cells words
+pub few-items : (f : Bool) (cs ws : List ℕ) (cells words : ℕ) → items cs ws ≤ most-items
+    → balance-room f cs ws cells words ≡ result-room (nodes (balanced f (handed-in cs ws))) (length ((balance-cells f cs ws) .words)) cells words
 unfolding balance-room
-few-items cs ws cells words h = rw (le-ltb most-items (items cs ws) h)
+few-items f cs ws cells words h = rw (le-ltb most-items (items cs ws) h)
 
 pub few-lines : (n out : ℕ) → out < n → lines-room n out ≡ refused 14 0
 unfolding lines-room
@@ -89,10 +89,10 @@ module _ (T : ℕ) (cs ws : List ℕ) (work : ℕ) (out : List ℕ) (number plac
   unfolding list-call
   list-refused F S h = rw (h (lines-room (length (list-cells F S cs)) (length out)))
 
-  pub balance-refused : (words : List ℕ) → ((o : Outcome) → unless-bad T 0 true cs ws work o ≡ refused number place)
-      → balance-call T cs ws work out words ≡ record { outcome = refused number place; outputs = out ∷ words ∷ [] }
+  pub balance-refused : (f : Bool) (words : List ℕ) → ((o : Outcome) → unless-bad T 0 true cs ws work o ≡ refused number place)
+      → balance-call T f cs ws work out words ≡ record { outcome = refused number place; outputs = out ∷ words ∷ [] }
   unfolding balance-call
-  balance-refused words h = rw (h (balance-room cs ws (length out) (length words)))
+  balance-refused f words h = rw (h (balance-room f cs ws (length out) (length words)))
 
 -- a call on accepted cells with what it asks lent
 module _ (T : ℕ) (types : T ≤ 65536) (cs ws : List ℕ) (work : ℕ) (out : List ℕ) where
@@ -117,34 +117,34 @@ module _ (T : ℕ) (types : T ≤ 65536) (cs ws : List ℕ) (work : ℕ) (out : 
       rw (not-refused T S false cs [] work (lines-room (length (list-cells F S cs)) (length out)) types lent ok, enough-lines (length (list-cells F S cs)) (length out) room)
 
   -- balance with what all tree calls ask: its own refusals are left
-  module _ (words : List ℕ) (ok : bad-cell T 0 true cs ws ≡ none) (lent : 96 * items cs ws + 96 ≤ work) where
-    pub balance-many : most-items < items cs ws → balance-call T cs ws work out words ≡ record { outcome = refused 12 0; outputs = out ∷ words ∷ [] }
+  module _ (f : Bool) (words : List ℕ) (ok : bad-cell T 0 true cs ws ≡ none) (lent : 96 * items cs ws + 96 ≤ work) where
+    pub balance-many : most-items < items cs ws → balance-call T f cs ws work out words ≡ record { outcome = refused 12 0; outputs = out ∷ words ∷ [] }
     unfolding balance-call
     balance-many many =
-        let e : balance-room cs ws (length out) (length words) ≡ refused 12 0 = many-items cs ws (length out) (length words) many in
-        rw (not-refused T 0 true cs ws work (balance-room cs ws (length out) (length words)) types lent ok, e)
+        let e : balance-room f cs ws (length out) (length words) ≡ refused 12 0 = many-items f cs ws (length out) (length words) many in
+        rw (not-refused T 0 true cs ws work (balance-room f cs ws (length out) (length words)) types lent ok, e)
 
     pub balance-settles : items cs ws ≤ most-items
-        → balance-call T cs ws work out words
-        ≡ settled (result-room (nodes (balanced (handed-in cs ws))) (length ((balance-cells cs ws) .words)) (length out) (length words))
-        (front ((balance-cells cs ws) .cells) out ∷ front ((balance-cells cs ws) .words) words ∷ []) (out ∷ words ∷ [])
+        → balance-call T f cs ws work out words
+        ≡ settled (result-room (nodes (balanced f (handed-in cs ws))) (length ((balance-cells f cs ws) .words)) (length out) (length words))
+        (front ((balance-cells f cs ws) .cells) out ∷ front ((balance-cells f cs ws) .words) words ∷ []) (out ∷ words ∷ [])
     unfolding balance-call
     balance-settles most =
         rw (
-          not-refused T 0 true cs ws work (balance-room cs ws (length out) (length words)) types lent ok,
-          few-items cs ws (length out) (length words) most,
+          not-refused T 0 true cs ws work (balance-room f cs ws (length out) (length words)) types lent ok,
+          few-items f cs ws (length out) (length words) most,
         )
 
-  pub balance-writes : (words : List ℕ) (ok : bad-cell T 0 true cs ws ≡ none) → 96 * items cs ws + 96 ≤ work → items cs ws ≤ most-items
-      → nodes (balanced (handed-in cs ws)) ≤ 4294967295 → cell-width * nodes (balanced (handed-in cs ws)) ≤ length out → length ((balance-cells cs ws) .words) ≤ length words
-      → balance-call T cs ws work out words ≡ record {
-        outcome = accepted (nodes (balanced (handed-in cs ws)) ∷ length ((balance-cells cs ws) .words) ∷ []);
-        outputs = front ((balance-cells cs ws) .cells) out ∷ front ((balance-cells cs ws) .words) words ∷ [];
+  pub balance-writes : (f : Bool) (words : List ℕ) (ok : bad-cell T 0 true cs ws ≡ none) → 96 * items cs ws + 96 ≤ work → items cs ws ≤ most-items
+      → nodes (balanced f (handed-in cs ws)) ≤ 4294967295 → cell-width * nodes (balanced f (handed-in cs ws)) ≤ length out → length ((balance-cells f cs ws) .words) ≤ length words
+      → balance-call T f cs ws work out words ≡ record {
+        outcome = accepted (nodes (balanced f (handed-in cs ws)) ∷ length ((balance-cells f cs ws) .words) ∷ []);
+        outputs = front ((balance-cells f cs ws) .cells) out ∷ front ((balance-cells f cs ws) .words) words ∷ [];
       }
-  balance-writes words ok lent most few room wide =
-      let n = nodes (balanced (handed-in cs ws)) in
-      let m = length ((balance-cells cs ws) .words) in
-      rw (enough n m (length out) (length words) few room wide) at (balance-settles words ok lent most)
+  balance-writes f words ok lent most few room wide =
+      let n = nodes (balanced f (handed-in cs ws)) in
+      let m = length ((balance-cells f cs ws) .words) in
+      rw (enough n m (length out) (length words) few room wide) at (balance-settles f words ok lent most)
 
 -- A run: build, materialise on what it wrote, listing on what materialise wrote.
 module _ (T F b S top : ℕ) (given : Option ℕ) (list : List ℕ) (fits : S ≤ 4294967295) (a : Accepted T b top S list) where

@@ -42,7 +42,8 @@ lines-room n out = cond (ltb out n) (refused 14 0) (accepted (n / line-width ∷
 unfoldable pub handed-in : (cs ws : List ℕ) → Trees
 handed-in cs ws = absolute 0 (decode ws cs)
 
--- Materialise: no packed words are written, so there is one output, and 13 cannot occur. `out` is what it held before.
+-- Materialise: no packed words are written, so there is one output, and 13 cannot occur. `out` is what it held before. The set is not
+-- looked at: "materialising treats id 0 as before".
 unfoldable pub materialise-call : (T : ℕ) (cs ws : List ℕ) (work : ℕ) (out : List ℕ) → Result
 materialise-call T cs ws work out =
     settled (unless-bad T 0 true cs ws work (result-room (nodes (materialise (handed-in cs ws))) 0 (length out) 0))
@@ -52,21 +53,22 @@ materialise-call T cs ws work out =
 abbrev pub most-items : ℕ
 most-items = 44739241
 
--- "12, 13" of balance, in slices of `cells` and `words` words. The words of the work slice are named by 32-bit words. A tree of more
+-- "12, 13" of balance, in slices of `cells` and `words` words; `none-first`: is place 0 of the set none? The words of the work slice are named by 32-bit words. A tree of more
 -- items than these can name the work for is treated like a result that no slice has the space for: 12.
-unfoldable pub balance-room : (cs ws : List ℕ) (cells words : ℕ) → Outcome
-balance-room cs ws cells words =
+unfoldable pub balance-room : (none-first : Bool) (cs ws : List ℕ) (cells words : ℕ) → Outcome
+balance-room f cs ws cells words =
     cond (ltb most-items (items cs ws)) (refused 12 0)
-    (result-room (nodes (balanced (handed-in cs ws))) (length ((balance-cells cs ws) .words)) cells words)
+    (result-room (nodes (balanced f (handed-in cs ws))) (length ((balance-cells f cs ws) .words)) cells words)
 
--- Balance: `cells` and `words` are what its outputs held before.
-unfoldable pub balance-call : (T : ℕ) (cs ws : List ℕ) (work : ℕ) (cells words : List ℕ) → Result
-balance-call T cs ws work cells words =
-    let w = balance-cells cs ws in
-    settled (unless-bad T 0 true cs ws work (balance-room cs ws (length cells) (length words)))
+-- Balance: "the set now says whether its place 0 is none". `cells` and `words` are what its outputs held before.
+unfoldable pub balance-call : (T : ℕ) (none-first : Bool) (cs ws : List ℕ) (work : ℕ) (cells words : List ℕ) → Result
+balance-call T f cs ws work cells words =
+    let w = balance-cells f cs ws in
+    settled (unless-bad T 0 true cs ws work (balance-room f cs ws (length cells) (length words)))
     (front (w .cells) cells ∷ front (w .words) words ∷ []) (cells ∷ words ∷ [])
 
--- List: it takes no packed words and no cell of kind 2, and absolute ends are counted from S.
+-- List: it takes no packed words and no cell of kind 2, and absolute ends are counted from S. The set is not looked at: "Listing still
+-- shows id 0 when it is ordinary."
 unfoldable pub list-call : (T F S : ℕ) (cs : List ℕ) (work : ℕ) (out : List ℕ) → Result
 list-call T F S cs work out =
     settled (unless-bad T S false cs [] work (lines-room (length (list-cells F S cs)) (length out)))

@@ -11,7 +11,7 @@ use Rattle.records.specs.Parse.{nearest, farther, parse-from, parse}
 use Rattle.records.specs.Check as list
 use Rattle.tree.specs.Trees.{_⊕_, nodes, siblings, kids-of, first-start, last-end}
 use Rattle.tree.specs.Materialise.{within, beyond, unpack, materialise}
-use Rattle.tree.specs.Balance.{same-type, all-of, total, share, grows, groups-from, groups, lone, is-tree, joined, placed, each, divide, balance, balanced}
+use Rattle.tree.specs.Balance.{equal-types, all-of, total, share, grows, groups-from, groups, lone, is-tree, joined, placed, each, divide, balance, balanced}
 use Rattle.tree.specs.Listing.{node-line, node-below, listing, lines}
 use Rattle.tree.specs.Cells.{cell, relative, absolute, packed, unless-none, kind, id-word, cells, leading, following, cell-tree, decode-from, decode, tree-cells}
 use Rattle.tree.specs.Calls.{room as tree-room, written, materialise-cells, balance-cells, list-cells}
@@ -102,11 +102,11 @@ six-children =
 -- "Ten leaf trees balance to ten children, eleven to six"
 abbrev pub Balances : Type 0
 Balances =
-    (balance-call 2 (leaf-tree 10) [] 1152 (trees.nines 77) [] ≡ record { outcome = accepted (11 ∷ 0 ∷ []); outputs = leaf-tree 10 ∷ [] ∷ [] })
-    × (balance-call 2 (leaf-tree 11) [] 1248 (trees.nines 119) [] ≡ record { outcome = accepted (17 ∷ 0 ∷ []); outputs = six-children ∷ [] ∷ [] })
+    (balance-call 2 false (leaf-tree 10) [] 1152 (trees.nines 77) [] ≡ record { outcome = accepted (11 ∷ 0 ∷ []); outputs = leaf-tree 10 ∷ [] ∷ [] })
+    × (balance-call 2 false (leaf-tree 11) [] 1248 (trees.nines 119) [] ≡ record { outcome = accepted (17 ∷ 0 ∷ []); outputs = six-children ∷ [] ∷ [] })
 
 balances : Balances
-unfolding trees.nines leaf-cells balance-call balance-room items unless-bad result-room tree-room handed-in bad-cell cells-of first-child chain chains any-part named top-broken kind-broken id-broken link-broken count-broken place-broken order-broken inside-broken end-broken part-broken stray-broken any-of broken next-named first-named words-end lowest-from top-named part-kept _⊕_ nodes siblings kids-of first-start last-end same-type all-of total share grows groups-from groups lone is-tree joined placed each divide balance balanced relative absolute packed unless-none kind id-word cells leading following cell-tree decode-from decode tree-cells written balance-cells
+unfolding trees.nines leaf-cells balance-call balance-room items unless-bad result-room tree-room handed-in bad-cell cells-of first-child chain chains any-part named top-broken kind-broken id-broken link-broken count-broken place-broken order-broken inside-broken end-broken part-broken stray-broken any-of broken next-named first-named words-end lowest-from top-named part-kept _⊕_ nodes siblings kids-of first-start last-end equal-types all-of total share grows groups-from groups lone is-tree joined placed each divide balance balanced relative absolute packed unless-none kind id-word cells leading following cell-tree decode-from decode tree-cells written balance-cells
 balances = (refl, refl)
 
 -- The whole table; the rows about builds stand beside the definitions that they are computed from.

@@ -2,7 +2,7 @@
 use native.Mathlib.Nat.{add-zero}
 use mathlib.Core.Path.{_≡_, ap, _∙_}
 use mathlib.Core.List.{List, [], _∷_}
-use mathlib.Core.Bool.{cond}
+use mathlib.Core.Bool.{true, false, cond}
 use Prim.Native.Nat.{ℕ, _+_, _-_, _*_, _≤_, _<_}
 use native.Mathlib.Omega.{arith}
 use native.Mathlib.Numerals.{add-one}
@@ -12,18 +12,20 @@ use lib.ListN.{length, getD, drop, set, length-drop}
 use lib.Seq.{paste, paste-suc, length-paste, getD-drop}
 use Rattle.tree.specs.Cells.{cell-width}
 use Rattle.words.specs.Words.{put}
-use Rattle.store.specs.Store.{told, liked, tree-cell, part-cell, PartReady, PartWritten}
+use Rattle.store.specs.Store.{told, typed, liked, kind-written, id-written, tree-cell, part-cell, PartReady, PartWritten}
 
 module _ (w out out′ : List ℕ) (n q cell : ℕ) where
-  pub tree-written : (start first count below big next : ℕ)
-      → out′ ≡ put out (cell * cell-width) (getD w (n + 0) 0 ∷ getD w (n + 1) 0 ∷ start ∷ getD w (n + 3) 0 ∷ first ∷ count ∷ next ∷ [])
+  pub tree-written : (kind id start first count below big next : ℕ)
+      → out′ ≡ put out (cell * cell-width) (kind ∷ id ∷ start ∷ getD w (n + 3) 0 ∷ first ∷ count ∷ next ∷ [])
+      → kind ≡ kind-written (getD w (n + 0) 0) (getD w (n + 1) 0)
+      → id ≡ id-written (getD w (n + 0) 0) (getD w (n + 1) 0)
       → start ≡ getD w (n + 2) 0 - q
       → first ≡ cond (eqb (getD w (n + 4) 0) 0) 0 (cell + 2)
       → count ≡ told w (getD w (n + 4) 0) 8
       → next ≡ cond (eqb (getD w (n + 5) 0) 0) 0 (cell + 2 + big)
       → big ≡ below → below ≡ told w (getD w (n + 4) 0) 6
       → out′ ≡ put out (cell * cell-width) (tree-cell w n q cell)
-  tree-written start first count below big next e e₁ e₂ e₃ e₄ e₅ e₆ = e ∙ rw (add-zero n, e₄, e₅, e₆, e₁, e₂, e₃)
+  tree-written kind id start first count below big next e ek ei e₁ e₂ e₃ e₄ e₅ e₆ = e ∙ rw (ek, ei, add-zero n, e₄, e₅, e₆, e₁, e₂, e₃)
 
   pub part-written : (word start next : ℕ)
       → out′ ≡ put out (cell * cell-width) (2 ∷ 0 ∷ start ∷ getD w (n + 3) 0 ∷ word ∷ getD w (n + 1) 0 ∷ next ∷ [])
@@ -52,12 +54,21 @@ pub whole-part : (w : List ℕ) (n q cell word : ℕ) (out out′ words words′
     → PartWritten w n q cell word out out′ words words′ count
 whole-part w n q cell word out out′ words words′ from count e f a b = record { count = f; cell-out = a; words-out = b ∙ rw (e, f) }
 
-module _ (w : List ℕ) (n node k i : ℕ) (e : n ≡ node) (live : node ≡ 0 → ⊥) where
-  pub liked-same : getD w n 0 ≡ k → getD w (n + 1) 0 ≡ i → getD w (n + 9) 0 ≡ liked w node k i
-  liked-same a b = rw (ne-eqb node 0 live, ← e, eq-eqb _ _ a, eq-eqb _ _ b)
+-- the answers of the comparison
+module _ (w : List ℕ) (n node k i : ℕ) (e : n ≡ node) where
+  pub typed-kind : (getD w n 0 ≡ k → ⊥) → false ≡ typed w node k i
+  typed-kind a = rw (← e, ne-eqb _ _ a)
 
-  pub liked-id : getD w n 0 ≡ k → (getD w (n + 1) 0 ≡ i → ⊥) → 0 ≡ liked w node k i
-  liked-id a b = rw (ne-eqb node 0 live, ← e, eq-eqb _ _ a, ne-eqb _ _ b)
+  pub typed-none : getD w n 0 ≡ k → k ≡ 3 → true ≡ typed w node k i
+  typed-none a b = rw (← e, eq-eqb _ _ a, eq-eqb _ _ b)
 
-  pub liked-kind : (getD w n 0 ≡ k → ⊥) → 0 ≡ liked w node k i
-  liked-kind a = rw (ne-eqb node 0 live, ← e, ne-eqb _ _ a)
+  pub typed-id : getD w n 0 ≡ k → (k ≡ 3 → ⊥) → eqb i (getD w (n + 1) 0) ≡ typed w node k i
+  typed-id a b = rw (← e, eq-eqb _ _ a, ne-eqb _ _ b)
+
+-- and those of what is told of a list
+module _ (w : List ℕ) (node k i : ℕ) (live : node ≡ 0 → ⊥) where
+  pub liked-same : {n : ℕ} → n ≡ node → true ≡ typed w node k i → getD w (n + 9) 0 ≡ liked w node k i
+  liked-same e h = rw (ne-eqb node 0 live, ← h, e)
+
+  pub liked-other : false ≡ typed w node k i → 0 ≡ liked w node k i
+  liked-other h = rw (ne-eqb node 0 live, ← h)

@@ -1,5 +1,5 @@
 -- Laws of trees held in a store: they stay where their words stay, and what their nodes tell. Assumes nothing.
-use mathlib.Core.Path.{_≡_, refl, sym, ap, _∙_}
+use mathlib.Core.Path.{_≡_, refl, sym, ap, subst, _∙_}
 use mathlib.Core.List.{List, [], _∷_}
 use mathlib.Core.Bool.{Bool, true, false, cond}
 use mathlib.Core.Option.{Option, none, some}
@@ -7,15 +7,16 @@ use Prim.Native.Nat.{ℕ, zero, suc, _+_, _-_, min, max, _≤_, _<_}
 use native.Mathlib.Omega.{arith}
 use native.Mathlib.Decide.{ℕ-discrete}
 use borrow.Author.Tests.{eq-eqb, ne-eqb}
-use lib.Dec.{eqb}
+use lib.Dec.{T as So, eqb}
 use lib.ListN.{length, getD, set, length-append, length-set}
 use lib.Seq.{getD-set-same, getD-set-other}
 use Rattle.tree.specs.Trees.{Trees, nil, tree, part, nodes, siblings}
-use Rattle.tree.specs.Cells.{packed, kind, id-word}
-use Rattle.tree.specs.Balance.{all-of, total, same-type}
-use Rattle.store.proofs.Unique.{not-part, type-same}
+use Rattle.tree.specs.Cells.{packed}
+use Rattle.tree.specs.Balance.{SetType, under, type-under, equal-types, all-of, total, same-type}
+use Rattle.tree.proofs.BalanceLaws.{same-refl, equal-is, all-of-counted, total-counted}
+use Rattle.store.proofs.Types.{typed-is, typed-part}
 use Rattle.words.specs.Words.{put}
-use Rattle.store.specs.Store.{likes, liked, liked-on, word, Node, Staged, Holds, Same, told, Readable, PushedTree, PushedPart, StagedMore}
+use Rattle.store.specs.Store.{likes, typed, liked, liked-on, word, stored-kind, stored-id, Node, Staged, Holds, Same, told, Readable, PushedTree, PushedPart, StagedMore}
 use Rattle.words.proofs.Stores.{put-length, put-in, put-before, put-after}
 
 pub same-less : (w w′ : List ℕ) (base top low base′ top′ low′ : ℕ) → base ≤ base′ → top′ ≤ top → low ≤ low′ → Same w w′ base top low → Same w w′ base′ top′ low′
@@ -40,7 +41,7 @@ same-put w at vs h = record {
   above = λ j l. put-after w at vs h j l;
 }
 
-module _ (w w′ : List ℕ) (base top low top′ low′ : ℕ) (up : top ≤ top′) (down : low′ ≤ low) (s : Same w w′ base top low) where
+module _ (f : Bool) (w w′ : List ℕ) (base top low top′ low′ : ℕ) (up : top ≤ top′) (down : low′ ≤ low) (s : Same w w′ base top low) where
   node-frame : (n k i p l o : ℕ) (ts : Trees) → Node w base top n k i p l o ts → Node w′ base top′ n k i p l o ts
   node-frame n k i p l o ts h =
       let at : (j : ℕ) → j < 10 → getD w′ (n + j) 0 ≡ getD w (n + j) 0 = λ j m. s .below (n + j) (omega arith) (omega arith) in
@@ -67,7 +68,7 @@ module _ (w w′ : List ℕ) (base top low top′ low′ : ℕ) (up : top ≤ to
   }
 
   -- a list of trees stays where its words stay
-  pub frame : (n : ℕ) (ts : Trees) → Holds w base top low n ts → Holds w′ base top′ low′ n ts
+  pub frame : (n : ℕ) (ts : Trees) → Holds f w base top low n ts → Holds f w′ base top′ low′ n ts
   frame n nil h = h
   frame n (tree t p l kids rest) h =
       let m = h .node in
@@ -88,61 +89,46 @@ module _ (w w′ : List ℕ) (base top low top′ low′ : ℕ) (up : top ≤ to
         next = rw b (frame _ rest (h .next));
       }
 
-module _ (w : List ℕ) (base top low : ℕ) where
-  pub tells-cells : (n : ℕ) (ts : Trees) → Holds w base top low n ts → told w n 6 ≡ word (nodes ts)
+module _ (f : Bool) (w : List ℕ) (base top low : ℕ) where
+  pub tells-cells : (n : ℕ) (ts : Trees) → Holds f w base top low n ts → told w n 6 ≡ word (nodes ts)
   unfolding nodes
   tells-cells n nil h = rw (eq-eqb n 0 h)
   tells-cells n (tree t p l kids rest) h = rw (ne-eqb n 0 (λ e. omega (arith, h .node .live))) (h .node .cells-at)
   tells-cells n (part p l ws rest) h = rw (ne-eqb n 0 (λ e. omega (arith, h .node .live))) (h .node .cells-at)
 
-  pub tells-words : (n : ℕ) (ts : Trees) → Holds w base top low n ts → told w n 7 ≡ word (length (packed ts))
+  pub tells-words : (n : ℕ) (ts : Trees) → Holds f w base top low n ts → told w n 7 ≡ word (length (packed ts))
   unfolding packed
   tells-words n nil h = rw (eq-eqb n 0 h)
   tells-words n (tree t p l kids rest) h = rw (ne-eqb n 0 (λ e. omega (arith, h .node .live))) (h .node .words-at)
   tells-words n (part p l ws rest) h = rw (ne-eqb n 0 (λ e. omega (arith, h .node .live))) (h .node .words-at)
 
-  pub tells-trees : (n : ℕ) (ts : Trees) → Holds w base top low n ts → told w n 8 ≡ word (siblings ts)
+  pub tells-trees : (n : ℕ) (ts : Trees) → Holds f w base top low n ts → told w n 8 ≡ word (siblings ts)
   unfolding siblings
   tells-trees n nil h = rw (eq-eqb n 0 h)
   tells-trees n (tree t p l kids rest) h = rw (ne-eqb n 0 (λ e. omega (arith, h .node .live))) (h .node .trees-at)
   tells-trees n (part p l ws rest) h = rw (ne-eqb n 0 (λ e. omega (arith, h .node .live))) (h .node .trees-at)
 
-  pub readable : (n : ℕ) (ts : Trees) → top ≤ length w → Holds w base top low n ts → Readable w n
+  pub readable : (n : ℕ) (ts : Trees) → top ≤ length w → Holds f w base top low n ts → Readable w n
   readable n nil l h e = absurd (e h)
   readable n (tree t p m kids rest) l h e = omega (arith, h .node .below)
   readable n (part p m ws rest) l h e = omega (arith, h .node .below)
 
--- types by kind and id
-same-refl : (t : Option ℕ) → same-type t t ≡ true
-unfolding same-type
-same-refl none = refl
-same-refl (some i) = eq-eqb i i refl
+so-true : (x : Bool) → So x → x ≡ true
+so-true true h = refl
+so-true false h = absurd h
 
-pub same-is : (t u : Option ℕ) → kind u ≡ kind t → id-word u ≡ id-word t → same-type t u ≡ true
-same-is t u k i = rw (type-same u t k i) (same-refl t)
-
-pub same-not : (t u : Option ℕ) → (kind u ≡ kind t → id-word u ≡ id-word t → ⊥) → same-type t u ≡ false
-unfolding same-type kind id-word
-same-not none none h = absurd (h refl refl)
-same-not none (some i) h = refl
-same-not (some r) none h = refl
-same-not (some r) (some i) h = ne-eqb r i (λ e. h refl (sym e))
-
-likes-nil : (t : Option ℕ) → 1 ≡ likes t nil
+-- what is told of siblings by their own type
+likes-nil : (t : SetType) → 1 ≡ likes t nil
 unfolding likes all-of total
 likes-nil t = refl
 
-likes-other : (t u : Option ℕ) (s l : ℕ) (kids rest : Trees) → same-type t u ≡ false → 0 ≡ likes t (tree u s l kids rest)
-unfolding likes all-of
-likes-other t u s l kids rest e = rw e
-
-likes-part : (t : Option ℕ) (s l : ℕ) (ws : List ℕ) (rest : Trees) → 0 ≡ likes t (part s l ws rest)
+likes-part : (t : SetType) (s l : ℕ) (ws : List ℕ) (rest : Trees) → 0 ≡ likes t (part s l ws rest)
 unfolding likes all-of
 likes-part t s l ws rest = refl
 
-likes-tree : (t : Option ℕ) (s l : ℕ) (kids rest : Trees) → liked-on (max 1 (likes t kids)) (likes t rest) ≡ likes t (tree t s l kids rest)
+likes-tree : (t : SetType) (s l : ℕ) (kids rest : Trees) → liked-on (max 1 (likes t kids)) (likes t rest) ≡ likes t (tree (t .type) s l kids rest)
 unfolding likes all-of total
-likes-tree t s l kids rest = rw (same-refl t) (go (all-of t kids) (all-of t rest))
+likes-tree t s l kids rest = rw (so-true (same-type t (t .type)) (same-refl t)) (go (all-of t kids) (all-of t rest))
   where
     go : (x y : Bool) → liked-on (max 1 (cond x (word (suc (total t kids))) 0)) (cond y (word (suc (total t rest))) 0)
         ≡ cond y (word (suc (elim x [ true ↦ suc (total t kids) | false ↦ 1 ] + total t rest))) 0
@@ -151,23 +137,31 @@ likes-tree t s l kids rest = rw (same-refl t) (go (all-of t kids) (all-of t rest
     go true false = refl
     go false false = refl
 
-module _ (w : List ℕ) (base top low : ℕ) where
-  pub tells-like : (n : ℕ) (ts : Trees) (t : Option ℕ) → Holds w base top low n ts → liked w n (kind t) (id-word t) ≡ likes t ts
-  tells-like n nil t h = rw (eq-eqb n 0 h) (likes-nil t)
+-- and by another type: the same where the two count as one, and else 0
+likes-typed : (f : Bool) (t u : Option ℕ) (s l : ℕ) (kids rest : Trees)
+    → cond (same-type (under f t) u) (likes (under f u) (tree u s l kids rest)) 0 ≡ likes (under f t) (tree u s l kids rest)
+unfolding likes all-of
+likes-typed f t u s l kids rest = go (same-type (under f t) u) refl
+  where
+    ts : Trees
+    ts = tree u s l kids rest
+
+    go : (x : Bool) → same-type (under f t) u ≡ x → cond x (likes (under f u) ts) 0 ≡ likes (under f t) ts
+    go true e =
+        let same = equal-is (type-under f t) (type-under f u) (subst So (sym e) tt) in
+        sym (rw (all-of-counted f t u same ts, total-counted f t u same ts))
+    go false e = rw e
+
+module _ (f : Bool) (w : List ℕ) (base top low : ℕ) where
+  pub tells-like : (n : ℕ) (ts : Trees) (t : Option ℕ) → Holds f w base top low n ts → liked w n (stored-kind (under f t)) (stored-id (under f t)) ≡ likes (under f t) ts
+  tells-like n nil t h = rw (eq-eqb n 0 h) (likes-nil (under f t))
   tells-like n (part s l ws rest) t h =
-      rw (ne-eqb n 0 (λ e. omega (arith, h .node .live)), ne-eqb (getD w n 0) (kind t) (λ e. not-part t (sym e ∙ h .node .kind-at))) (likes-part t s l ws rest)
-  tells-like n (tree u s l kids rest) t h = rw (ne-eqb n 0 (λ e. omega (arith, h .node .live))) (go (ℕ-discrete (getD w n 0) (kind t)) (ℕ-discrete (getD w (n + 1) 0) (id-word t)))
-    where
-      go : Dec (getD w n 0 ≡ kind t) → Dec (getD w (n + 1) 0 ≡ id-word t)
-          → cond (eqb (getD w n 0) (kind t)) (cond (eqb (getD w (n + 1) 0) (id-word t)) (getD w (n + 9) 0) 0) 0 ≡ likes t (tree u s l kids rest)
-      go (yes a) (yes b) =
-          let e : u ≡ t = type-same u t (sym (h .node .kind-at) ∙ a) (sym (h .node .id-at) ∙ b) in
-          rw (eq-eqb _ _ a, eq-eqb _ _ b) (h .node .like-at ∙ ap (λ (v : Option ℕ). likes v (tree u s l kids rest)) e)
-      go (yes a) (no b) = rw (eq-eqb _ _ a, ne-eqb _ _ b) (likes-other t u s l kids rest (same-not t u (λ x y. b (h .node .id-at ∙ y))))
-      go (no a) d = rw (ne-eqb _ _ a) (likes-other t u s l kids rest (same-not t u (λ x y. a (h .node .kind-at ∙ x))))
+      rw (ne-eqb n 0 (λ e. omega (arith, h .node .live)), typed-part f t w n (h .node .kind-at)) (likes-part (under f t) s l ws rest)
+  tells-like n (tree u s l kids rest) t h =
+      rw (ne-eqb n 0 (λ e. omega (arith, h .node .live)), typed-is f t u w n (h .node .kind-at) (h .node .id-at), h .node .like-at) (likes-typed f t u s l kids rest)
 
 -- a node written at the top
-module _ (w : List ℕ) (top : ℕ) (room : top + 10 ≤ length w) (base low : ℕ) (live : 0 < base) (above : base ≤ top) (free : top + 10 ≤ low) where
+module _ (f : Bool) (w : List ℕ) (top : ℕ) (room : top + 10 ≤ length w) (base low : ℕ) (live : 0 < base) (above : base ≤ top) (free : top + 10 ≤ low) where
   module _ (k i s l a n x y z o : ℕ) where
     abbrev vs : List ℕ
     vs = k ∷ i ∷ s ∷ l ∷ a ∷ n ∷ x ∷ y ∷ z ∷ o ∷ []
@@ -198,38 +192,38 @@ module _ (w : List ℕ) (top : ℕ) (room : top + 10 ≤ length w) (base low : �
           like-at = at 9 (omega arith);
         }
 
-    pub new-tree : (t : Option ℕ) (kids rest : Trees) → k ≡ kind t → i ≡ id-word t → Holds w base top low a kids → Holds w base top low n rest
+    pub new-tree : (t : Option ℕ) (kids rest : Trees) → k ≡ stored-kind (under f t) → i ≡ stored-id (under f t) → Holds f w base top low a kids → Holds f w base top low n rest
         → x ≡ word (word (told w a 6 + told w n 6) + 1) → y ≡ word (told w a 7 + told w n 7) → z ≡ word (told w n 8 + 1)
         → o ≡ liked-on (max 1 (liked w a k i)) (liked w n k i)
-        → Holds w₁ base (top + 10) low top (tree t s l kids rest)
+        → Holds f w₁ base (top + 10) low top (tree t s l kids rest)
     unfolding nodes packed siblings
     new-tree t kids rest ek ei ha hn ex ey ez eo =
-        let c₁ = tells-cells w base top low a kids ha in
-        let c₂ = tells-cells w base top low n rest hn in
-        let p₁ = tells-words w base top low a kids ha in
-        let p₂ = tells-words w base top low n rest hn in
-        let q₂ = tells-trees w base top low n rest hn in
-        let l₁ = tells-like w base top low a kids t ha in
-        let l₂ = tells-like w base top low n rest t hn in
-        let own : o ≡ likes t (tree t s l kids rest) = eo ∙ rw (ek, ei, l₁, l₂) (likes-tree t s l kids rest) in
+        let c₁ = tells-cells f w base top low a kids ha in
+        let c₂ = tells-cells f w base top low n rest hn in
+        let p₁ = tells-words f w base top low a kids ha in
+        let p₂ = tells-words f w base top low n rest hn in
+        let q₂ = tells-trees f w base top low n rest hn in
+        let l₁ = tells-like f w base top low a kids t ha in
+        let l₂ = tells-like f w base top low n rest t hn in
+        let own : o ≡ likes (under f t) (tree t s l kids rest) = eo ∙ rw (ek, ei, l₁, l₂) (likes-tree (under f t) s l kids rest) in
         record {
           node = rw (← ek, ← ei, ← own) (new-node (tree t s l kids rest) (omega arith) (rw length-append (omega arith)) (omega arith));
-          first = rw (at 4 (omega arith)) (frame w w₁ base top low (top + 10) low (omega arith) (omega arith) kept a kids ha);
-          next = rw (at 5 (omega arith)) (frame w w₁ base top low (top + 10) low (omega arith) (omega arith) kept n rest hn);
+          first = rw (at 4 (omega arith)) (frame f w w₁ base top low (top + 10) low (omega arith) (omega arith) kept a kids ha);
+          next = rw (at 5 (omega arith)) (frame f w w₁ base top low (top + 10) low (omega arith) (omega arith) kept n rest hn);
         }
 
-    pub new-part : (ws : List ℕ) (rest : Trees) → k ≡ 2 → o ≡ 0 → i ≡ length ws → Staged w low a ws → Holds w base top low n rest
+    pub new-part : (ws : List ℕ) (rest : Trees) → k ≡ 2 → o ≡ 0 → i ≡ length ws → Staged w low a ws → Holds f w base top low n rest
         → x ≡ word (told w n 6 + 1) → y ≡ word (i + told w n 7) → z ≡ word (told w n 8 + 1)
-        → Holds w₁ base (top + 10) low top (part s l ws rest)
+        → Holds f w₁ base (top + 10) low top (part s l ws rest)
     unfolding nodes packed siblings
     new-part ws rest ek eo ei ha hn ex ey ez =
-        let c₂ = tells-cells w base top low n rest hn in
-        let p₂ = tells-words w base top low n rest hn in
-        let q₂ = tells-trees w base top low n rest hn in
+        let c₂ = tells-cells f w base top low n rest hn in
+        let p₂ = tells-words f w base top low n rest hn in
+        let q₂ = tells-trees f w base top low n rest hn in
         record {
           node = rw (← ek, ← ei, ← eo) (new-node (part s l ws rest) (omega arith) (rw length-append (omega arith)) (omega arith));
-          first = rw (at 4 (omega arith)) (staged-frame w w₁ base top low (top + 10) low (omega arith) (omega arith) kept a ws ha);
-          next = rw (at 5 (omega arith)) (frame w w₁ base top low (top + 10) low (omega arith) (omega arith) kept n rest hn);
+          first = rw (at 4 (omega arith)) (staged-frame f w w₁ base top low (top + 10) low (omega arith) (omega arith) kept a ws ha);
+          next = rw (at 5 (omega arith)) (frame f w w₁ base top low (top + 10) low (omega arith) (omega arith) kept n rest hn);
         }
 
 module _ (w w′ : List ℕ) (top k i s l a n : ℕ) (room : top + 10 ≤ length w) where
@@ -241,8 +235,8 @@ module _ (w w′ : List ℕ) (top k i s l a n : ℕ) (room : top + 10 ≤ length
   pushed-tree at t₁ t₂ t₃ t₄ t₅ x₁ x y z a₁ a₂ a₃ o e₀ e e₁ e₂ e₃ e₄ e₅ f₁ f₂ f₃ f₄ g₁ g₂ g₃ g₄ = record {
     address = refl;
     kept = rw (e, e₀) (same-put w top (k ∷ i ∷ s ∷ l ∷ a ∷ n ∷ x ∷ y ∷ z ∷ o ∷ []) room);
-    holds = λ base low t ks rest live above free ek ei ha hn.
-        rw (e, e₀) (new-tree w top room base low live above free k i s l a n x y z o t ks rest ek ei ha hn (omega arith) (omega arith) (omega arith) (g₄ ∙ rw (g₂, g₁, g₃)));
+    holds = λ f base low t ks rest live above free ek ei ha hn.
+        rw (e, e₀) (new-tree f w top room base low live above free k i s l a n x y z o t ks rest ek ei ha hn (omega arith) (omega arith) (omega arith) (g₄ ∙ rw (g₂, g₁, g₃)));
   }
 
   pub pushed-part : (at t₂ t₄ t₅ x y z : ℕ) → at ≡ top → w′ ≡ put w at (2 ∷ i ∷ s ∷ l ∷ a ∷ n ∷ x ∷ y ∷ z ∷ 0 ∷ [])
@@ -252,8 +246,8 @@ module _ (w w′ : List ℕ) (top k i s l a n : ℕ) (room : top + 10 ≤ length
   pushed-part at t₂ t₄ t₅ x y z e₀ e e₂ e₄ e₅ f₂ f₃ f₄ = record {
     address = refl;
     kept = rw (e, e₀) (same-put w top (2 ∷ i ∷ s ∷ l ∷ a ∷ n ∷ x ∷ y ∷ z ∷ 0 ∷ []) room);
-    holds = λ base low ws rest live above free ei ha hn.
-        rw (e, e₀) (new-part w top room base low live above free 2 i s l a n x y z 0 ws rest refl refl ei ha hn (omega arith) (omega arith) (omega arith));
+    holds = λ f base low ws rest live above free ei ha hn.
+        rw (e, e₀) (new-part f w top room base low live above free 2 i s l a n x y z 0 ws rest refl refl ei ha hn (omega arith) (omega arith) (omega arith));
   }
 
 pub staged-more : (w : List ℕ) (low x a r : ℕ) → 1 ≤ low → low ≤ length w → x < 65536 → r ≡ low - 1 → a ≡ r → StagedMore w (set w a x) low x r

@@ -1,4 +1,5 @@
 pub mod Puts
+pub mod Types
 pub mod Unique
 pub mod Frame
 pub mod Cell

@@ -2,7 +2,7 @@
 -- lists on the stack follow them. Assumes nothing.
 use mathlib.Core.Path.{_≡_, refl, sym, ap, _∙_}
 use mathlib.Core.List.{List, [], _∷_, _++_, append-assoc, append-nil}
-use mathlib.Core.Bool.{cond}
+use mathlib.Core.Bool.{Bool, cond}
 use Prim.Native.Nat.{ℕ, suc, _+_, _-_, _*_, _≤_, _<_}
 use native.Mathlib.Omega.{arith}
 use native.Mathlib.Numerals.{add-one}
@@ -11,47 +11,49 @@ use lib.Dec.{eqb}
 use lib.ListN.{length, getD, take, drop, length-append, length-drop}
 use lib.Seq.{paste, ext-getD, length-take-le, getD-take, getD-drop}
 use Rattle.tree.specs.Trees.{Trees, nil, tree, part, nodes, siblings}
+use Rattle.tree.specs.Balance.{under, type-under}
 use Rattle.tree.specs.Cells.{packed, kind, id-word, tree-cells, unless-none, cell-width}
 use Rattle.words.specs.Words.{put, front}
 use Rattle.words.proofs.Runs.{Fronted, fronted-length, fronted-next, fronted-all}
-use Rattle.store.specs.Store.{likes, word, Node, Holds, Same, told, Readable, tree-cell, part-cell, Writable, Wrote, PartReady, PartWritten}
+use Rattle.store.specs.Store.{likes, word, stored-kind, stored-id, Node, Holds, Same, told, Readable, tree-cell, part-cell, Writable, Wrote, PartReady, PartWritten}
 use Rattle.words.proofs.Stores.{put-length, put-in, put-before}
 use Rattle.store.proofs.Frame.{same-less, same-put, frame, tells-cells, tells-trees, readable}
-use Rattle.store.proofs.Unique.{unique, not-part}
+use Rattle.store.proofs.Unique.{unique}
+use Rattle.store.proofs.Types.{not-part, kind-back, id-back}
 use Rattle.store.proofs.Flow.{Later, end, more, flow, parts, left, flow-nil, flow-tree, flow-part, siblings-few}
 
 -- the pending lists stand on the stack, two words each: the list's address, the parent's start
-abbrev pub Stacked : (w : List ℕ) (base top low sp : ℕ) → Later → Type 0
-Stacked w base top low sp end = sp ≡ top
-Stacked w base top low sp (more q ts later) =
+abbrev pub Stacked : (none-first : Bool) (w : List ℕ) (base top low sp : ℕ) → Later → Type 0
+Stacked f w base top low sp end = sp ≡ top
+Stacked f w base top low sp (more q ts later) =
     record {
       deep : top + 2 ≤ sp;
-      holds : Holds w base top low (getD w (sp - 2) 0) ts;
+      holds : Holds f w base top low (getD w (sp - 2) 0) ts;
       from : getD w (sp - 1) 0 ≡ q;
-      below : Stacked w base top low (sp - 2) later;
+      below : Stacked f w base top low (sp - 2) later;
     }
 
-stacked-above : (w : List ℕ) (base top low sp : ℕ) (later : Later) → Stacked w base top low sp later → top ≤ sp
-stacked-above w base top low sp end h = omega arith
-stacked-above w base top low sp (more q ts later) h = omega (arith, h .deep)
+stacked-above : (f : Bool) (w : List ℕ) (base top low sp : ℕ) (later : Later) → Stacked f w base top low sp later → top ≤ sp
+stacked-above f w base top low sp end h = omega arith
+stacked-above f w base top low sp (more q ts later) h = omega (arith, h .deep)
 
-stacked-frame : (w w′ : List ℕ) (base top low sp : ℕ) (later : Later) → Same w w′ base top low → ((j : ℕ) → j < sp → getD w′ j 0 ≡ getD w j 0)
-    → Stacked w base top low sp later → Stacked w′ base top low sp later
-stacked-frame w w′ base top low sp end s k h = h
-stacked-frame w w′ base top low sp (more q ts later) s k h =
+stacked-frame : (f : Bool) (w w′ : List ℕ) (base top low sp : ℕ) (later : Later) → Same w w′ base top low → ((j : ℕ) → j < sp → getD w′ j 0 ≡ getD w j 0)
+    → Stacked f w base top low sp later → Stacked f w′ base top low sp later
+stacked-frame f w w′ base top low sp end s k h = h
+stacked-frame f w w′ base top low sp (more q ts later) s k h =
     let d = h .deep in
     record {
       deep = d;
-      holds = rw (k (sp - 2) (omega arith)) (frame w w′ base top low top low (omega arith) (omega arith) s _ ts (h .holds));
+      holds = rw (k (sp - 2) (omega arith)) (frame f w w′ base top low top low (omega arith) (omega arith) s _ ts (h .holds));
       from = k (sp - 1) (omega arith) ∙ h .from;
-      below = stacked-frame w w′ base top low (sp - 2) later s (λ j l. k j (omega arith)) (h .below);
+      below = stacked-frame f w w′ base top low (sp - 2) later s (λ j l. k j (omega arith)) (h .below);
     }
 
 module _ (w₀ : List ℕ) (top root start : ℕ) (out₀ words₀ : List ℕ) (p : Writable w₀ top root (length out₀) (length words₀)) where
   pub record Going (w out words : List ℕ) (at from sp cell word : ℕ) (now : Trees) (later : Later) : Type 0 where
     pub size : length w ≡ length w₀
-    pub holds : Holds w (p .base) top (p .low) at now
-    pub stacked : Stacked w (p .base) top (p .low) sp later
+    pub holds : Holds (p .none-first) w (p .base) top (p .low) at now
+    pub stacked : Stacked (p .none-first) w (p .base) top (p .low) sp later
     pub cells-out : Fronted (tree-cells start (p .trees)) out₀ out (flow (suc cell) word (more from now later)) (cell * cell-width)
     pub words-out : Fronted (packed (p .trees)) words₀ words (parts (more from now later)) word
     pub count : cell + left (more from now later) ≡ nodes (p .trees)
@@ -75,7 +77,7 @@ module _ (w₀ : List ℕ) (top root start : ℕ) (out₀ words₀ : List ℕ) (
 
   -- the number of nodes, as the root's node tells it
   pub total : told w₀ root 6 ≡ nodes (p .trees)
-  total = omega (arith, tells-cells w₀ (p .base) top (p .low) root (p .trees) (p .holds), p .few)
+  total = omega (arith, tells-cells (p .none-first) w₀ (p .base) top (p .low) root (p .trees) (p .holds), p .few)
 
   module _ (w out words : List ℕ) (at from sp cell word : ℕ) where
     abbrev Here : Trees → Later → Type 0
@@ -102,10 +104,10 @@ module _ (w₀ : List ℕ) (top root start : ℕ) (out₀ words₀ : List ℕ) (
     -- the end: nothing is at hand and nothing is pending
     pub going-end : (now : Trees) (later : Later) → Here now later → at ≡ 0 → sp ≡ top → Wrote w₀ top root start out₀ out words₀ words
     unfolding flow parts packed
-    going-end nil end g z e = record { cells-out = λ base low ts h. by-cells ts (same base low ts h); words-out = λ base low ts h. by-words ts (same base low ts h) }
+    going-end nil end g z e = record { cells-out = λ f base low ts h. by-cells ts (same f base low ts h); words-out = λ f base low ts h. by-words ts (same f base low ts h) }
       where
-        same : (base low : ℕ) (ts : Trees) → Holds w₀ base top low root ts → p .trees ≡ ts
-        same base low ts h = unique w₀ (p .base) top (p .low) base top low root (p .trees) ts (p .holds) h
+        same : (f : Bool) (base low : ℕ) (ts : Trees) → Holds f w₀ base top low root ts → p .trees ≡ ts
+        same f base low ts h = unique (p .none-first) f w₀ (p .base) top (p .low) base top low root (p .trees) ts (p .holds) h
 
         by-cells : (ts : Trees) → p .trees ≡ ts → out ≡ front (tree-cells start ts) out₀
         by-cells ts f = fronted-all _ out₀ out _ (cell * cell-width) (g .cells-out) (flow-nil (suc cell) word from end) ∙ ap (λ (us : Trees). front (tree-cells start us) out₀) f
@@ -147,7 +149,7 @@ module _ (w₀ : List ℕ) (top root start : ℕ) (out₀ words₀ : List ℕ) (
 
     -- at a node
     pub node-inside : (now : Trees) (later : Later) → Here now later → (at ≡ 0 → ⊥) → at + 10 ≤ length w
-    node-inside now later g ne = readable w (p .base) top (p .low) at now (roomy now later g .0) (g .holds) ne
+    node-inside now later g ne = readable (p .none-first) w (p .base) top (p .low) at now (roomy now later g .0) (g .holds) ne
 
     pub cells-left : (now : Trees) (later : Later) → Here now later → (at ≡ 0 → ⊥) → cell + 1 ≤ nodes (p .trees)
     unfolding left nodes
@@ -159,7 +161,7 @@ module _ (w₀ : List ℕ) (top root start : ℕ) (out₀ words₀ : List ℕ) (
     cell-room now later g ne = omega (arith, cells-left now later g ne, out-same now later g, p .cells-fit)
 
     -- a link to a list
-    linked : (n k : ℕ) (ts : Trees) → Holds w (p .base) top (p .low) n ts → cond (eqb n 0) 0 k ≡ unless-none ts k
+    linked : (n k : ℕ) (ts : Trees) → Holds (p .none-first) w (p .base) top (p .low) n ts → cond (eqb n 0) 0 k ≡ unless-none ts k
     unfolding unless-none
     linked n k nil h = rw (eq-eqb n 0 h)
     linked n k (tree t s l kids rest) h = rw (ne-eqb n 0 (λ e. omega (arith, h .node .live)))
@@ -168,7 +170,7 @@ module _ (w₀ : List ℕ) (top root start : ℕ) (out₀ words₀ : List ℕ) (
     pub part-ready : (now : Trees) (later : Later) → Here now later → (at ≡ 0 → ⊥) → getD w at 0 ≡ 2 → PartReady w at cell (length out) word (length words)
     unfolding parts packed
     part-ready nil later g ne k = absurd (ne (g .holds))
-    part-ready (tree t s l kids rest) later g ne k = absurd (not-part t (sym (g .holds .node .kind-at) ∙ k))
+    part-ready (tree t s l kids rest) later g ne k = absurd (not-part (type-under (p .none-first) t) (sym (g .holds .node .kind-at) ∙ k))
     part-ready (part s l ws rest) later g ne k =
         let now : Trees = part s l ws rest in
         let i = g .holds .node .id-at in
@@ -198,10 +200,10 @@ module _ (w₀ : List ℕ) (top root start : ℕ) (out₀ words₀ : List ℕ) (
     tree-ready (tree t s l kids rest) later g ne k =
         let now : Trees = tree t s l kids rest in
         let r = roomy now later g in
-        let m = tells-cells w (p .base) top (p .low) _ kids (g .holds .first) in
+        let m = tells-cells (p .none-first) w (p .base) top (p .low) _ kids (g .holds .first) in
         let c = g .count in
         record {
-          kids-read = readable w (p .base) top (p .low) _ kids (r .0) (g .holds .first);
+          kids-read = readable (p .none-first) w (p .base) top (p .low) _ kids (r .0) (g .holds .first);
           few = omega (arith, m, c, p .few);
           stack = omega (arith, g .depth, cells-left now later g ne, r .1);
           above = omega (arith, g .depth, cells-left now later g ne, p .free);
@@ -224,12 +226,12 @@ module _ (w₀ : List ℕ) (top root start : ℕ) (out₀ words₀ : List ℕ) (
         more from rest later,
         rw (node .start-at, f) (record {
           size = put-length w sp two room ∙ g .size;
-          holds = frame w w₁ (p .base) top (p .low) top (p .low) (omega arith) (omega arith) kept _ kids (g .holds .first);
+          holds = frame (p .none-first) w w₁ (p .base) top (p .low) top (p .low) (omega arith) (omega arith) kept _ kids (g .holds .first);
           stacked = record {
             deep = omega (arith, g .inside);
-            holds = rw (below-two, at-zero) (frame w w₁ (p .base) top (p .low) top (p .low) (omega arith) (omega arith) kept _ rest (g .holds .next));
+            holds = rw (below-two, at-zero) (frame (p .none-first) w w₁ (p .base) top (p .low) top (p .low) (omega arith) (omega arith) kept _ rest (g .holds .next));
             from = rw below-one (put-in w sp two room 1 (omega arith));
-            below = rw below-two (stacked-frame w w₁ (p .base) top (p .low) sp later kept (λ j m. put-before w sp two room j m) (g .stacked));
+            below = rw below-two (stacked-frame (p .none-first) w w₁ (p .base) top (p .low) sp later kept (λ j m. put-before w sp two room j m) (g .stacked));
           };
           cells-out = cells-more now later g vs _ refl (sym step) (e ∙ ap (λ (r : List ℕ). put out (cell * cell-width) r) cell-is);
           words-out = rw (append-assoc (packed kids) (packed rest) (parts later)) at (g .words-out);
@@ -242,7 +244,7 @@ module _ (w₀ : List ℕ) (top root start : ℕ) (out₀ words₀ : List ℕ) (
           now : Trees
           now = tree t s l kids rest
 
-          node : Node w (p .base) top at (kind t) (id-word t) s l (likes t now) now
+          node : Node w (p .base) top at (stored-kind (under (p .none-first) t)) (stored-id (under (p .none-first) t)) s l (likes (under (p .none-first) t) now) now
           node = g .holds .node
 
           ready : TreeReady
@@ -276,10 +278,10 @@ module _ (w₀ : List ℕ) (top root start : ℕ) (out₀ words₀ : List ℕ) (
           few = omega (arith, g .count, p .few)
 
           told-cells : told w (getD w (at + 4) 0) 6 ≡ nodes kids
-          told-cells = omega (arith, tells-cells w (p .base) top (p .low) _ kids (g .holds .first), few)
+          told-cells = omega (arith, tells-cells (p .none-first) w (p .base) top (p .low) _ kids (g .holds .first), few)
 
           told-trees : told w (getD w (at + 4) 0) 8 ≡ siblings kids
-          told-trees = omega (arith, tells-trees w (p .base) top (p .low) _ kids (g .holds .first), few, siblings-few kids)
+          told-trees = omega (arith, tells-trees (p .none-first) w (p .base) top (p .low) _ kids (g .holds .first), few, siblings-few kids)
 
           two-more : cell + 2 ≡ suc (suc cell)
           two-more = omega arith
@@ -293,6 +295,8 @@ module _ (w₀ : List ℕ) (top root start : ℕ) (out₀ words₀ : List ℕ) (
                 linked _ (cell + 2 + nodes kids) rest (g .holds .next),
                 node .kind-at,
                 node .id-at,
+                kind-back (p .none-first) t,
+                id-back (p .none-first) t,
                 node .start-at,
                 node .length-at,
                 two-more,
@@ -306,7 +310,7 @@ module _ (w₀ : List ℕ) (top root start : ℕ) (out₀ words₀ : List ℕ) (
           → (word + r ≤ length words₀) × ((ts : Trees) × (rest : Later) × Going w out′ words′ (getD w (at + 5) 0) from sp (cell + 1) (word + r) ts rest)
       unfolding left nodes parts packed
       going-part nil later g ne k words′ r wr = absurd (ne (g .holds))
-      going-part (tree t s l kids rest) later g ne k words′ r wr = absurd (not-part t (sym (g .holds .node .kind-at) ∙ k))
+      going-part (tree t s l kids rest) later g ne k words′ r wr = absurd (not-part (type-under (p .none-first) t) (sym (g .holds .node .kind-at) ∙ k))
       going-part (part s l ws rest) later g ne k words′ r wr = (
         fits,
         (

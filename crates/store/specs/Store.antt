@@ -1,15 +1,15 @@
 -- Trees held in the words of a store. Only internal functions cite these.
 use mathlib.Core.Path.{_≡_}
 use mathlib.Core.List.{List, [], _∷_}
-use mathlib.Core.Bool.{cond}
-use mathlib.Core.Option.{Option, some}
-use Prim.Native.Nat.{ℕ, suc, _+_, _-_, _*_, min, _≤_, _<_}
+use mathlib.Core.Bool.{Bool, true, false, cond}
+use mathlib.Core.Option.{Option, none, some}
+use Prim.Native.Nat.{ℕ, zero, suc, _+_, _-_, _*_, min, _≤_, _<_}
 use lib.Dec.{eqb}
 use lib.ListN.{length, getD, drop}
 use lib.Seq.{paste}
 use Rattle.words.specs.Words.{put, front}
 use Rattle.tree.specs.Trees.{Trees, nil, tree, part, nodes, siblings}
-use Rattle.tree.specs.Balance.{all-of, total}
+use Rattle.tree.specs.Balance.{SetType, under, type-under, all-of, total}
 use Rattle.tree.specs.Cells.{cell-width, packed, kind, id-word, tree-cells}
 
 -- a count as a 32-bit word keeps it
@@ -17,8 +17,29 @@ abbrev pub word : ℕ → ℕ
 word n = min n 4294967295
 
 -- one more than the balanced size of siblings that are all trees of the type t, else 0
-unfoldable pub likes : Option ℕ → Trees → ℕ
+unfoldable pub likes : (t : SetType) → Trees → ℕ
 likes t ts = cond (all-of t ts) (word (suc (total t ts))) 0
+
+-- The kind and id by which a node tells its type. Where place 0 of the set is none, a tree of id 0 has the kind of none and the id 1:
+-- it compares as none does, and its cell still has kind 1 and id 0.
+abbrev pub stored-kind : SetType → ℕ
+stored-kind t = kind (type-under (t .none-first) (t .type))
+
+abbrev pub id-under : (none-first : Bool) → Option ℕ → ℕ
+id-under false t = id-word t
+id-under true none = 0
+id-under true (some zero) = 1
+id-under true (some (suc i)) = suc i
+
+abbrev pub stored-id : SetType → ℕ
+stored-id t = id-under (t .none-first) (t .type)
+
+-- the kind and id of the cell that a tree's node is written as
+abbrev pub kind-written : (kind id : ℕ) → ℕ
+kind-written k i = cond (eqb k 3) (cond (eqb i 1) 1 3) k
+
+abbrev pub id-written : (kind id : ℕ) → ℕ
+id-written k i = cond (eqb k 3) 0 i
 
 -- how many words a node has
 abbrev pub node-width : ℕ
@@ -79,20 +100,21 @@ pub record Staged (w : List ℕ) (low a : ℕ) (ws : List ℕ) : Type 0 where
   pub same : (k : ℕ) → k < length ws → getD w (a + k) 0 ≡ getD ws k 0
   pub narrow : (k : ℕ) → k < length ws → getD ws k 0 < 65536
 
--- The address n denotes these siblings, 0 none. Nodes stand from `base` up to `top`, words of parts from `low` up.
-abbrev pub Holds : (w : List ℕ) (base top low n : ℕ) → Trees → Type 0
-Holds w base top low n nil = n ≡ 0
-Holds w base top low n (tree t s l kids rest) =
+-- The address n denotes these siblings, 0 none. Nodes stand from `base` up to `top`, words of parts from `low` up. `none-first`: is
+-- place 0 of the set none?
+abbrev pub Holds : (none-first : Bool) (w : List ℕ) (base top low n : ℕ) → Trees → Type 0
+Holds f w base top low n nil = n ≡ 0
+Holds f w base top low n (tree t s l kids rest) =
     record {
-      node : Node w base top n (kind t) (id-word t) s l (likes t (tree t s l kids rest)) (tree t s l kids rest);
-      first : Holds w base top low (node-first w n) kids;
-      next : Holds w base top low (node-next w n) rest;
+      node : Node w base top n (stored-kind (under f t)) (stored-id (under f t)) s l (likes (under f t) (tree t s l kids rest)) (tree t s l kids rest);
+      first : Holds f w base top low (node-first w n) kids;
+      next : Holds f w base top low (node-next w n) rest;
     }
-Holds w base top low n (part s l ws rest) =
+Holds f w base top low n (part s l ws rest) =
     record {
       node : Node w base top n 2 (length ws) s l 0 (part s l ws rest);
       first : Staged w low (node-first w n) ws;
-      next : Holds w base top low (node-next w n) rest;
+      next : Holds f w base top low (node-next w n) rest;
     }
 
 -- the words from `base` up to `top` and from `low` on are the same
@@ -105,9 +127,13 @@ pub record Same (w w′ : List ℕ) (base top low : ℕ) : Type 0 where
 abbrev pub told : List ℕ → ℕ → ℕ → ℕ
 told w n k = cond (eqb n 0) 0 (getD w (n + k) 0)
 
+-- is a node's type the one of this kind and id? All of the kind of none are of one type.
+abbrev pub typed : (w : List ℕ) (n kind id : ℕ) → Bool
+typed w n k i = cond (eqb (node-kind w n) k) (cond (eqb k 3) true (eqb i (node-id w n))) false
+
 -- what a list's node tells of a type: one more than the balanced size where all are trees of it, else 0
 abbrev pub liked : (w : List ℕ) (n kind id : ℕ) → ℕ
-liked w n k i = cond (eqb n 0) 1 (cond (eqb (node-kind w n) k) (cond (eqb (node-id w n) i) (node-like w n) 0) 0)
+liked w n k i = cond (eqb n 0) 1 (cond (typed w n k i) (node-like w n) 0)
 
 -- the same for a tree of size s before a list
 abbrev pub liked-on : (s b : ℕ) → ℕ
@@ -121,22 +147,23 @@ Readable w n = (n ≡ 0 → ⊥) → n + node-width ≤ length w
 pub record PushedTree (w w′ : List ℕ) (top k i s l kids next r : ℕ) : Type 0 where
   pub address : r ≡ top
   pub kept : Same w w′ 0 top (top + node-width)
-  pub holds : (base low : ℕ) (t : Option ℕ) (ks rest : Trees) → 0 < base → base ≤ top → top + node-width ≤ low → k ≡ kind t → i ≡ id-word t
-      → Holds w base top low kids ks → Holds w base top low next rest
-      → Holds w′ base (top + node-width) low r (tree t s l ks rest)
+  pub holds : (f : Bool) (base low : ℕ) (t : Option ℕ) (ks rest : Trees) → 0 < base → base ≤ top → top + node-width ≤ low
+      → k ≡ stored-kind (under f t) → i ≡ stored-id (under f t)
+      → Holds f w base top low kids ks → Holds f w base top low next rest
+      → Holds f w′ base (top + node-width) low r (tree t s l ks rest)
 
 -- the same of a part whose words stand at `from`
 pub record PushedPart (w w′ : List ℕ) (top s l from count next r : ℕ) : Type 0 where
   pub address : r ≡ top
   pub kept : Same w w′ 0 top (top + node-width)
-  pub holds : (base low : ℕ) (ws : List ℕ) (rest : Trees) → 0 < base → base ≤ top → top + node-width ≤ low → count ≡ length ws
-      → Staged w low from ws → Holds w base top low next rest
-      → Holds w′ base (top + node-width) low r (part s l ws rest)
+  pub holds : (f : Bool) (base low : ℕ) (ws : List ℕ) (rest : Trees) → 0 < base → base ≤ top → top + node-width ≤ low → count ≡ length ws
+      → Staged w low from ws → Holds f w base top low next rest
+      → Holds f w′ base (top + node-width) low r (part s l ws rest)
 
 -- the cell of a tree node, after `cell` others, under a parent that starts at q
 abbrev pub tree-cell : (w : List ℕ) (n q cell : ℕ) → List ℕ
 tree-cell w n q cell =
-    node-kind w n ∷ node-id w n ∷ (node-start w n - q) ∷ node-length w n
+    kind-written (node-kind w n) (node-id w n) ∷ id-written (node-kind w n) (node-id w n) ∷ (node-start w n - q) ∷ node-length w n
     ∷ cond (eqb (node-first w n) 0) 0 (cell + 2)
     ∷ told w (node-first w n) node-trees-place
     ∷ cond (eqb (node-next w n) 0) 0 (cell + 2 + told w (node-first w n) node-cells-place)
@@ -167,10 +194,11 @@ pub record PartWritten (w : List ℕ) (n q cell word : ℕ) (out out′ words wo
 
 -- a list of trees that can be written out: there is room for its cells, its packed words and the pending lists
 pub record Writable (w : List ℕ) (top root room wide : ℕ) : Type 0 where
+  pub none-first : Bool
   pub base : ℕ
   pub low : ℕ
   pub trees : Trees
-  pub holds : Holds w base top low root trees
+  pub holds : Holds none-first w base top low root trees
   pub free : top + 2 * nodes trees ≤ low
   pub inside : low ≤ length w
   pub cells-fit : cell-width * nodes trees ≤ room
@@ -180,8 +208,8 @@ pub record Writable (w : List ℕ) (top root room wide : ℕ) : Type 0 where
 
 -- the cells and the packed words stand at the front of the outputs, which are otherwise as they were
 pub record Wrote (w : List ℕ) (top root q : ℕ) (out out′ words words′ : List ℕ) : Type 0 where
-  pub cells-out : (base low : ℕ) (ts : Trees) → Holds w base top low root ts → out′ ≡ front (tree-cells q ts) out
-  pub words-out : (base low : ℕ) (ts : Trees) → Holds w base top low root ts → words′ ≡ front (packed ts) words
+  pub cells-out : (f : Bool) (base low : ℕ) (ts : Trees) → Holds f w base top low root ts → out′ ≡ front (tree-cells q ts) out
+  pub words-out : (f : Bool) (base low : ℕ) (ts : Trees) → Holds f w base top low root ts → words′ ≡ front (packed ts) words
 
 -- a word staged below those that stand from `low` on
 pub record StagedMore (w w′ : List ℕ) (low x r : ℕ) : Type 0 where
@@ -189,7 +217,7 @@ pub record StagedMore (w w′ : List ℕ) (low x r : ℕ) : Type 0 where
   pub kept : Same w w′ 0 r low
   pub holds : (ws : List ℕ) → Staged w low low ws → Staged w′ r r (x ∷ ws)
 
--- a list of trees that can be put under a top and written out
+-- a list of trees of the build that can be put under a top and written out
 pub record TopReady (w : List ℕ) (top kids room wide : ℕ) : Type 0 where
   pub base : ℕ
   pub low : ℕ
@@ -199,7 +227,7 @@ pub record TopReady (w : List ℕ) (top kids room wide : ℕ) : Type 0 where
   pub free : top + node-width + 2 * suc (nodes trees) ≤ low
   pub inside : low ≤ length w
   pub fits : low ≤ 4294967295
-  pub holds : Holds w base top low kids trees
+  pub holds : Holds false w base top low kids trees
   pub cells-fit : cell-width * suc (nodes trees) ≤ room
   pub words-fit : length (packed trees) ≤ wide
   pub narrow : length (packed trees) < 4294967296

@@ -10,7 +10,7 @@ ghost use lib.Dec.{eqb};
 ghost use mathlib.Core.Bool.{cond};
 ghost use Rattle.tree.specs.Cells.{cell-width};
 ghost use Rattle.words.specs.Words.{put};
-ghost use Rattle.store.specs.Store.{told, liked, liked-on, word, Readable, PushedTree, PushedPart, StagedMore, tree-cell, PartReady, PartWritten, Writable, Wrote, TopReady, TopWrote, node-width, node-first, node-cells-place};
+ghost use Rattle.store.specs.Store.{told, typed, kind-written, id-written, liked, liked-on, word, Readable, PushedTree, PushedPart, StagedMore, tree-cell, PartReady, PartWritten, Writable, Wrote, TopReady, TopWrote, node-width, node-first, node-cells-place};
 use tree::CELL_WIDTH;
 
 // How many words a node has.
@@ -36,6 +36,12 @@ pub const NODE_WORDS: usize = 7;
 pub const NODE_TREES: usize = 8;
 
 pub const NODE_LIKE: usize = 9;
+
+// The kind of trees of `NodeType::none`.
+pub const NONE: u32 = 3;
+
+// The id that a node of that kind has where it stands for a tree of id 0, on a set whose place 0 is none.
+pub const FIRST_OF_SET: u32 = 1;
 
 // A node's words from an address on.
 fn put_node(
@@ -89,6 +95,21 @@ pub fn sum(a: u32, b: u32) -> u32
     a + b
 }
 
+// Is a node's type the one of this kind and id? All trees of the kind of none are of one type.
+pub fn same_type(work: &[u32], node: u32, kind: u32, id: u32) -> bool
+    requires { ⌜ node + node-width ≤ length (now work) ⌝ }
+    ensures { λ r. ⌜ r ≡ typed (now (work .entry)) node kind id ⌝ }
+{
+    let n = words::index(node);
+    if work[n + NODE_KIND] != kind {
+        return false;
+    }
+    if kind == NONE {
+        return true;
+    }
+    id == work[n + NODE_ID]
+}
+
 // One more than a list's balanced size where all its trees have this type, else 0.
 pub fn like(work: &[u32], node: u32, kind: u32, id: u32) -> u32
     requires { ⌜ Readable (now work) node ⌝ }
@@ -97,12 +118,8 @@ pub fn like(work: &[u32], node: u32, kind: u32, id: u32) -> u32
     if node == 0 {
         return 1;
     }
-    let n = words::index(node);
-    if work[n + NODE_KIND] == kind {
-        if work[n + NODE_ID] == id {
-            return work[n + NODE_LIKE];
-        }
-        return 0;
+    if same_type(work, node, kind, id) {
+        return work[words::index(node) + NODE_LIKE];
     }
     0
 }
@@ -236,6 +253,29 @@ fn copy_words(work: &[u32], from: usize, count: usize, out: &mut [u16], at: usiz
     }
 }
 
+// The kind of the cell that a tree's node is written as.
+fn kind_written(kind: u32, id: u32) -> u32
+    ensures { λ r. ⌜ r ≡ kind-written kind id ⌝ }
+{
+    if kind == NONE {
+        if id == FIRST_OF_SET {
+            return 1;
+        }
+        return NONE;
+    }
+    kind
+}
+
+// Its id.
+fn id_written(kind: u32, id: u32) -> u32
+    ensures { λ r. ⌜ r ≡ id-written kind id ⌝ }
+{
+    if kind == NONE {
+        return 0;
+    }
+    id
+}
+
 // The cell of the tree at n, after `cell` others.
 fn write_tree(work: &[u32], n: usize, from: u32, out: &mut [u32], cell: usize)
     requires { ⌜ n + node-width ≤ length (now work) ⌝ }
@@ -250,11 +290,13 @@ fn write_tree(work: &[u32], n: usize, from: u32, out: &mut [u32], cell: usize)
     let count = tell(work, kids, NODE_TREES);
     let next = link(work[n + NODE_NEXT], cell + 2 + words::index(below));
     let start = words::less(work[n + NODE_START], from);
+    let kind = kind_written(work[n + NODE_KIND], work[n + NODE_ID]);
+    let id = id_written(work[n + NODE_KIND], work[n + NODE_ID]);
     tree::put_cell(
         out,
         cell * CELL_WIDTH,
-        work[n + NODE_KIND],
-        work[n + NODE_ID],
+        kind,
+        id,
         start,
         work[n + NODE_LENGTH],
         first,

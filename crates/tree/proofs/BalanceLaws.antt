@@ -1,6 +1,6 @@
 -- Balancing keeps whatever is read off siblings in order and passes through trees of the balance type, so the listing
 -- where that type is not listed. By induction on the fuel. Assumes nothing.
-use mathlib.Core.Path.{_≡_, refl, sym, ap, _∙_}
+use mathlib.Core.Path.{_≡_, refl, sym, ap, ap₂, _∙_}
 use mathlib.Core.Bool.{Bool, true, false, _&&_}
 use mathlib.Core.List.{List, [], _∷_, _++_, append-nil}
 use mathlib.Core.Option.{Option, none, some}
@@ -59,6 +59,30 @@ same-hidden F none none e h = tt
 same-hidden F none (some i) e h = absurd e
 same-hidden F (some r) none e h = absurd e
 same-hidden F (some r) (some i) e h = rw (eqb→eq r i e) at h
+
+-- types that compare equal are the same
+pub equal-is : (t u : Option ℕ) → T (equal-types t u) → t ≡ u
+unfolding equal-types
+equal-is none none e = refl
+equal-is none (some i) e = absurd e
+equal-is (some r) none e = absurd e
+equal-is (some r) (some i) e = ap some (eqb→eq r i e)
+
+-- a type goes into balanced sizes only as what it counts as
+module _ (f : Bool) (t u : Option ℕ) (e : type-under f t ≡ type-under f u) where
+  pub all-of-counted : (ts : Trees) → all-of (under f t) ts ≡ all-of (under f u) ts
+  unfolding all-of
+  all-of-counted nil = refl
+  all-of-counted (tree v s l kids rest) = rw (e, all-of-counted rest)
+  all-of-counted (part s l ws rest) = refl
+
+  pub total-counted : (ts : Trees) → total (under f t) ts ≡ total (under f u) ts
+  unfolding total
+  total-counted nil = refl
+  total-counted (tree v s l kids rest) =
+      let same = ap₂ _&&_ (ap (λ (x : Option ℕ). equal-types x (type-under f v)) e) (all-of-counted kids) in
+      ap₂ _+_ (ap₂ (λ (x : Bool) (n : ℕ). elim x [ true ↦ suc n | false ↦ 1 ]) same (total-counted kids)) (total-counted rest)
+  total-counted (part s l ws rest) = ap suc (total-counted rest)
 
 one-pos : (x : Bool) (k r : ℕ) → 1 ≤ elim x [ true ↦ suc k | false ↦ 1 ] + r
 one-pos true k r = omega arith

@@ -6,10 +6,12 @@ use mathlib.Core.Bool.{Bool, true, false}
 use mathlib.Core.List.{List, [], _∷_, _++_}
 use mathlib.Core.Option.{Option, none, some}
 use Prim.Native.Nat.{ℕ, suc, _+_, _≤_}
-use Rattle.tree.specs.Trees.{Trees, nil, tree, part, _⊕_, kids-of}
+use lib.ListN.{length}
+use Rattle.records.specs.Forest.{line, depth-below}
+use Rattle.tree.specs.Trees.{Trees, nil, tree, part, _⊕_, siblings, kids-of, first-start, last-end}
 use Rattle.tree.specs.Materialise.{materialise}
 use Rattle.tree.specs.Listing.{node-line, node-below, listing, lines}
-use Rattle.tree.specs.Balance.{type-under}
+use Rattle.tree.specs.Balance.{type-under, equal-types, all-of, total, share, grows, groups-from, groups, lone, is-tree, joined, placed, each, divide, balance, balanced}
 use Rattle.tree.specs.Cells.{absolute, decode}
 use Rattle.tree.specs.Calls.{materialise-cells, balance-cells, list-cells}
 use Rattle.tree.proofs.ListingLaws.{listing-⊕, materialise-⊕}
@@ -87,3 +89,19 @@ pub balance-lists : (T hi : ℕ) (cs ws : List ℕ) → Kept T hi cs ws → (F S
 balance-lists T hi cs ws k F S types =
     sym (list-all F S (materialise-cells ((balance-cells false cs ws) .cells) ((balance-cells false cs ws) .words)))
     ∙ (balance-lists-counted false T hi cs ws k F S types ∙ list-all F S (materialise-cells cs ws))
+
+-- A node of id 0 goes: a top with eight leaves of id 1 and a ninth child of id 0 that holds three leaves of kind 3. Where place 0 of the
+-- set is none, the ninth counts as none and is divided in place.
+unfoldable pub ninth : Trees
+ninth = tree (some 0) 8 3 (tree none 8 1 nil (tree none 9 1 nil (tree none 10 1 nil nil))) nil
+
+abbrev leaf : ℕ → Trees → Trees
+leaf s rest = tree (some 1) s 1 nil rest
+
+unfoldable pub nine : Trees
+nine = tree (some 1) 0 11 (leaf 0 (leaf 1 (leaf 2 (leaf 3 (leaf 4 (leaf 5 (leaf 6 (leaf 7 ninth)))))))) nil
+
+-- nine lines before and on a set without none, eight on a set with it
+pub one-goes : (length (lines 2 nine) ≡ 36) × (length (lines 2 (balanced false nine)) ≡ 36) × (length (lines 2 (balanced true nine)) ≡ 32)
+unfolding nine ninth lines listing node-line node-below line depth-below _⊕_ siblings kids-of first-start last-end equal-types all-of total share grows groups-from groups lone is-tree joined placed each divide balance balanced
+one-goes = (refl, refl, refl)

@@ -13,12 +13,12 @@ use lib.Dec.{T as So, ltb, leb, ltb→lt}
 use lib.ListN.{length}
 use borrow.Author.Tests.{le-leb, lt-leb}
 use Rattle.tree.specs.Trees.{Trees, nil, tree, part, _⊕_, nodes, siblings, kids-of, first-start, last-end}
-use Rattle.tree.specs.Balance.{SetType, under, type-under, equal-types, same-type, all-of, total, share, groups, lone, is-tree, joined, placed, each, divide, balance, balanced}
+use Rattle.tree.specs.Balance.{SetType, under, type-under, same-type, all-of, total, share, groups, lone, is-tree, joined, placed, each, divide, balance, balanced}
 use Rattle.tree.specs.Listing.{node-line, node-below, listing, lines}
 use Rattle.tree.specs.Cells.{relative, packed, cells, tree-cells}
 use Rattle.tree.specs.Calls.{written, materialise-cells, balance-cells, list-cells}
 use Rattle.tree.proofs.ListingLaws.{view, view-⊕, view-nil, view-tree}
-use Rattle.tree.proofs.BalanceLaws.{view-hidden, kept-divided, share-pos}
+use Rattle.tree.proofs.BalanceLaws.{equal-is, kept-divided, share-pos}
 use Rattle.tree.proofs.FuelLaws.{Group, Groups, groups-small, total-kids, several-pos, share-≤}
 use Rattle.tree.proofs.SizeLaws.{two-groups, some-group, size, one, size-one, size-divide}
 use Rattle.tree.proofs.CellLaws.{shift, shift-⊕, shift-zero}
@@ -124,12 +124,8 @@ total-nodes t (part s l ws rest) = omega (arith, total-nodes t rest)
 
 -- a type that counts as none
 counts-none : (f : Bool) (u : Option ℕ) → So (same-type (under f none) u) → type-under f u ≡ none
-unfolding equal-types
-counts-none false none e = refl
-counts-none false (some i) e = absurd e
-counts-none true none e = refl
-counts-none true (some zero) e = refl
-counts-none true (some (suc i)) e = absurd e
+counts-none false u e = sym (equal-is none u e)
+counts-none true u e = sym (equal-is none (type-under true u) e)
 
 module _ (f : Bool) where
   -- the balance type

@@ -1,0 +1,43 @@
+-- `store::same_type` meets its contract: a node's type compared. Assumes nothing.
+use native.Mathlib.Nat.{add-zero}
+use Rattle.store.proofs.Cell.{typed-kind, typed-none, typed-id}
+use denote.Ref.{now}
+use borrow.Author.Needs.{needs}
+use Rattle.store.proofs.same_type.Statement.{statement}
+use Rattle.store.proofs.same_type.Tie as tie
+
+returns : tie.Need-returns
+returns c =
+    let known = c .before .before in
+    let a = known .before .before .args in
+    typed-kind (now (a .work)) (known .index .result) (a .node) (a .kind) (a .id) (known .index .ensures) (simp add-zero at (c .if1 .taken))
+
+returns-2 : tie.Need-returns-2
+returns-2 c =
+    let same-kind = c .before in
+    let known = same-kind .before .before in
+    let a = known .before .before .args in
+    typed-none (now (a .work)) (known .index .result) (a .node) (a .kind) (a .id) (known .index .ensures) (simp add-zero at (same-kind .if1 .left)) (c .if2 .taken)
+
+returns-3 : tie.Need-returns-3
+returns-3 c =
+    let id-read = c .before in
+    let same-kind = id-read .before in
+    let known = same-kind .before .before in
+    let a = known .before .before .args in
+    typed-id (now (a .work)) (known .index .result) (a .node) (a .kind) (a .id) (known .index .ensures) (simp add-zero at (same-kind .if1 .left)) (id-read .if2 .left)
+
+pub same-type-spec : {M : Type 1} → statement M
+same-type-spec =
+    tie.close
+    (tie.spec
+    (λ c κs. search needs)
+    (λ c. search needs)
+    (λ c. search needs)
+    (λ c. search needs)
+    returns
+    returns-2
+    (λ c. search needs)
+    (λ c. search needs)
+    (λ c. search needs)
+    returns-3)
