@@ -32,5 +32,7 @@ pub mod PartLaws
 pub mod PartReadBack
 pub mod BalancedLaws
 pub mod BalanceLists
+pub mod BalanceEither
+pub mod EitherSet
 pub mod RunLaws
 pub mod Stores
