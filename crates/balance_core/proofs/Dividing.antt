@@ -49,7 +49,7 @@ module _ {w₀ : List ℕ} {top₀ stack node k kd i m size next : ℕ} (p : Div
     pub kept : Same w₀ w 0 top₀ stack
     pub grown : top₀ ≤ high
     pub waits : Waits w high sp gs
-    pub onto : Holds w (p .base) high (p .low) done ts
+    pub onto : Holds (p .type .none-first) w (p .base) high (p .low) done ts
     pub whole : unwound f gs ts ≡ divided-by (p .type) m (p .us) ⊕ p .rest
     pub left-is : weight (p .type) gs ≡ left
     pub less : left ≤ size
@@ -86,7 +86,7 @@ module _ {w₀ : List ℕ} {top₀ stack node k kd i m size next : ℕ} (p : Div
         kept = same-less w₀ w 0 sp stack 0 top₀ stack (omega arith) above (omega arith) (h .kept);
         grown = omega arith;
         waits = h .waits first-ready;
-        onto = frame w₀ w (p .base) top₀ (p .low) top₀ (p .low) (omega arith) (omega arith) s next (p .rest) (p .onto);
+        onto = frame (p .type .none-first) w₀ w (p .base) top₀ (p .low) top₀ (p .low) (omega arith) (omega arith) s next (p .rest) (p .onto);
         whole = unwound-stacked f gs [] (p .rest) ∙ unwound-none f (each f gs ⊕ p .rest)
             ∙ ap (λ (x : Trees). x ⊕ p .rest) (sym (divided-again (p .type) m (p .us) pos (omega (arith, share-le, p .size-is))));
         left-is = omega (arith, weight-stacked (p .type) gs [], weight-groups (p .type) m (p .us), weight-none (p .type), p .size-is);
@@ -96,7 +96,7 @@ module _ {w₀ : List ℕ} {top₀ stack node k kd i m size next : ℕ} (p : Div
 
   -- nothing waits
   pub dividing-end : {w : List ℕ} {high done left sp : ℕ} {gs : List Trees} {ts : Trees} → Dividing w high done left sp gs ts → left ≤ 0
-      → Holds w (p .base) high (p .low) done (divide (suc (total (p .type) (p .us))) (p .type) m (p .us) ⊕ p .rest)
+      → Holds (p .type .none-first) w (p .base) high (p .low) done (divide (suc (total (p .type) (p .us))) (p .type) m (p .us) ⊕ p .rest)
   unfolding divided-by
   dividing-end {gs = []} {ts = ts} d z = rw (sym (unwound-none f ts) ∙ d .whole) at (d .onto)
   dividing-end {w = w} {high = high} {sp = sp} {gs = g ∷ gs} d z =
@@ -108,7 +108,7 @@ module _ {w₀ : List ℕ} {top₀ stack node k kd i m size next : ℕ} (p : Div
 
   -- so the room is as promised
   pub divided-all : {w : List ℕ} {high done left sp : ℕ} {gs : List Trees} {ts : Trees} → Dividing w high done left sp gs ts → left ≤ 0
-      → ((q : DivideReady w₀ top₀ stack node k kd i m size next) → Holds w (q .base) high (q .low) done (divide (suc (total (q .type) (q .us))) (q .type) m (q .us) ⊕ q .rest))
+      → ((q : DivideReady w₀ top₀ stack node k kd i m size next) → Holds (q .type .none-first) w (q .base) high (q .low) done (divide (suc (total (q .type) (q .us))) (q .type) m (q .us) ⊕ q .rest))
       → Divided w₀ w top₀ stack node k kd i m size next high done
   divided-all d z all =
       let u = end-used d z in
@@ -159,7 +159,7 @@ module _ {w₀ : List ℕ} {top₀ stack node k kd i m size next : ℕ} (p : Div
       end-is : last-end 0 g ≡ end
       end-is = d .waits .ended ∙ sym (e .end-is)
 
-      pub held : Holds w (p .base) high (p .low) first (g ⊕ d .waits .tail)
+      pub held : Holds (p .type .none-first) w (p .base) high (p .low) first (g ⊕ d .waits .tail)
       held = rw (e .node-is) (d .waits .holds)
 
       pub sum-some : 1 ≤ sum
@@ -184,7 +184,7 @@ module _ {w₀ : List ℕ} {top₀ stack node k kd i m size next : ℕ} (p : Div
       high-inside = omega (arith, room, inside-sp)
 
       pub node-inside : first + 10 ≤ length w
-      node-inside = inside-node w (p .base) high (p .low) first (g ⊕ d .waits .tail) high-inside (omega (arith, siblings-⊕ g (d .waits .tail), d .waits .some)) held
+      node-inside = inside-node (p .type .none-first) w (p .base) high (p .low) first (g ⊕ d .waits .tail) high-inside (omega (arith, siblings-⊕ g (d .waits .tail), d .waits .some)) held
 
       -- a list that a call left before what stood
       module _ (w′ : List ℕ) (high′ done′ : ℕ) (up : high ≤ high′) (s : Same w w′ 0 high (sp + 4)) (us : Trees) where
@@ -195,7 +195,7 @@ module _ {w₀ : List ℕ} {top₀ stack node k kd i m size next : ℕ} (p : Div
           above = λ j l. s .above j (omega (arith, deep)) ∙ d .kept .above j l;
         }
 
-        pub placed-one : high′ + 10 ≤ high + 20 * sum → us ≡ f g → Holds w′ (p .base) high′ (p .low) done′ (us ⊕ ts) → Dividing w′ high′ done′ (left - sum) (sp + 4) gs (us ⊕ ts)
+        pub placed-one : high′ + 10 ≤ high + 20 * sum → us ≡ f g → Holds (p .type .none-first) w′ (p .base) high′ (p .low) done′ (us ⊕ ts) → Dividing w′ high′ done′ (left - sum) (sp + 4) gs (us ⊕ ts)
         placed-one used eq h = record {
           kept = still;
           grown = omega (arith, d .grown);
@@ -211,6 +211,7 @@ module _ {w₀ : List ℕ} {top₀ stack node k kd i m size next : ℕ} (p : Div
       module _ (o : count ≡ 1) (l : sum ≤ m) where
         abbrev pub copy-ready : CopyReady w high first done
         copy-ready = record {
+          none-first = p .type .none-first;
           base = p .base;
           low = p .low;
           first = g;
@@ -236,7 +237,7 @@ module _ {w₀ : List ℕ} {top₀ stack node k kd i m size next : ℕ} (p : Div
       module _ (o : count ≡ 1 → ⊥) where
         abbrev pub many-ready : BalanceReady w high (sp + 4) first count kd i kd i sum done
         many-ready = record {
-          own = p .type;
+          own = p .type .type;
           own-kind = p .kind-is;
           own-id = p .id-is;
           row = record {
@@ -269,7 +270,7 @@ module _ {w₀ : List ℕ} {top₀ stack node k kd i m size next : ℕ} (p : Div
             → Balanced w w′ high (sp + 4) first count kd i kd i start len sum done rtop rnode
             → Dividing w′ rtop rnode (left - sum) (sp + 4) gs (balance (p .type) (p .type) start len g ⊕ ts)
         dividing-many {start} {len} es el {w′} {rtop} {rnode} c =
-            let fs : first-start g ≡ start = start-held w (p .base) high (p .low) first g (d .waits .tail) (d .waits .some) held ∙ sym es in
+            let fs : first-start g ≡ start = start-held (p .type .none-first) w (p .base) high (p .low) first g (d .waits .tail) (d .waits .some) held ∙ sym es in
             let fl : last-end 0 g - first-start g ≡ len = omega (arith, end-is, fs, el) in
             let eq : balance (p .type) (p .type) start len g ≡ f g =
             sym (placed-several (p .type) m g (omega (arith, count-is, several o))
@@ -281,19 +282,19 @@ module _ {w₀ : List ℕ} {top₀ stack node k kd i m size next : ℕ} (p : Div
         pub kids-size : suc (total (p .type) (kids-of g)) ≡ sum
         kids-size = total-kids (p .type) g (omega (arith, sum-is, pos)) (one-lone g (count-is ∙ o)) ∙ sum-is
 
-        kids-at : Holds w (p .base) high (p .low) (getD w (first + 4) 0) (kids-of g)
-        kids-at = kids-held w (p .base) high (p .low) first (p .type) g (d .waits .tail) (count-is ∙ o) (omega (arith, sum-is, pos)) held
+        kids-at : Holds (p .type .none-first) w (p .base) high (p .low) (getD w (first + 4) 0) (kids-of g)
+        kids-at = kids-held (p .type .none-first) w (p .base) high (p .low) first (p .type) g (d .waits .tail) (count-is ∙ o) (omega (arith, sum-is, pos)) held
 
         module _ {kids : ℕ} (ek : kids ≡ getD w (first + 4) 0) where
-          pub kids-there : Holds w (p .base) high (p .low) kids (kids-of g)
+          pub kids-there : Holds (p .type .none-first) w (p .base) high (p .low) kids (kids-of g)
           kids-there = rw ek kids-at
 
           pub kids-read : Readable w kids
-          kids-read = readable w (p .base) high (p .low) kids (kids-of g) high-inside kids-there
+          kids-read = readable (p .type .none-first) w (p .base) high (p .low) kids (kids-of g) high-inside kids-there
 
           module _ {n : ℕ} (en : n ≡ told w kids 8) where
             pub kids-count : siblings (kids-of g) ≡ n
-            kids-count = omega (arith, en, tells-trees w (p .base) high (p .low) kids (kids-of g) kids-there, siblings-total (p .type) (kids-of g), kids-size, p .few, sum-le, d .less)
+            kids-count = omega (arith, en, tells-trees (p .type .none-first) w (p .base) high (p .low) kids (kids-of g) kids-there, siblings-total (p .type) (kids-of g), kids-size, p .few, sum-le, d .less)
 
             abbrev pub kids-ready : PushReady w (sp + 4) kids n kd i m
             kids-ready = record {
@@ -330,7 +331,7 @@ module _ {w₀ : List ℕ} {top₀ stack node k kd i m size next : ℕ} (p : Div
                   kept = still w′ high done (omega arith) s ts;
                   grown = d .grown;
                   waits = h .waits kids-ready;
-                  onto = frame w w′ (p .base) high (p .low) high (p .low) (omega arith) (omega arith) s-low done ts (d .onto);
+                  onto = frame (p .type .none-first) w w′ (p .base) high (p .low) high (p .low) (omega arith) (omega arith) s-low done ts (d .onto);
                   whole = unwound-stacked f inner gs ts ∙ ap (λ (x : Trees). unwound f gs (x ⊕ ts)) (sym inner-is) ∙ sym (unwound-step f g gs ts) ∙ d .whole;
                   left-is = omega (arith, weight-stacked (p .type) inner gs, weight-groups (p .type) m (kids-of g), weights, kids-size, sum-is);
                   less = omega (arith, d .less);

@@ -9,9 +9,8 @@ use borrow.Author.Tests.{lt-ltb, le-ltb}
 use lib.Dec.{ltb}
 use lib.ListN.{getD}
 use Rattle.tree.specs.Trees.{Trees, nil, tree, part, _⊕_, siblings, last-end}
-use Rattle.tree.specs.Cells.{kind, id-word}
-use Rattle.tree.specs.Balance.{total, grows, groups, groups-from}
-use Rattle.store.specs.Store.{Holds, word}
+use Rattle.tree.specs.Balance.{SetType, total, grows, groups, groups-from}
+use Rattle.store.specs.Store.{Holds, stored-kind, stored-id, word}
 use Rattle.balance_core.specs.Rows.{sized, Sizable, Ends, Row, Grouped}
 use Rattle.tree.proofs.ListingLaws.{⊕-assoc}
 use Rattle.tree.proofs.FuelLaws.{total-⊕}
@@ -33,29 +32,29 @@ ends-front (part s l ws rest) us h = record { own = h .own; after = ends-front r
 pub ends-back : (ts us : Trees) → Ends (ts ⊕ us) → Ends us
 ends-back = ends-⊕
 
-pub from-tree : (t : Option ℕ) (m : ℕ) (cur : Trees) (n : ℕ) (u : Option ℕ) (s l : ℕ) (kids rest : Trees) (x : Bool) → ltb (n + total t (tree u s l kids nil)) m ≡ x
+pub from-tree : (t : SetType) (m : ℕ) (cur : Trees) (n : ℕ) (u : Option ℕ) (s l : ℕ) (kids rest : Trees) (x : Bool) → ltb (n + total t (tree u s l kids nil)) m ≡ x
     → groups-from t m cur n (tree u s l kids rest)
     ≡ elim x [ true ↦ groups-from t m (cur ⊕ tree u s l kids nil) (n + total t (tree u s l kids nil)) rest | false ↦ cur ∷ groups-from t m (tree u s l kids nil) (total t (tree u s l kids nil)) rest ]
 unfolding groups-from grows
 from-tree t m cur n u s l kids rest x e =
     ap (λ (b : Bool). elim b [ true ↦ groups-from t m (cur ⊕ tree u s l kids nil) (n + total t (tree u s l kids nil)) rest | false ↦ cur ∷ groups-from t m (tree u s l kids nil) (total t (tree u s l kids nil)) rest ]) e
 
-pub from-part : (t : Option ℕ) (m : ℕ) (cur : Trees) (n : ℕ) (s l : ℕ) (ws : List ℕ) (rest : Trees) (x : Bool) → ltb (n + 1) m ≡ x
+pub from-part : (t : SetType) (m : ℕ) (cur : Trees) (n : ℕ) (s l : ℕ) (ws : List ℕ) (rest : Trees) (x : Bool) → ltb (n + 1) m ≡ x
     → groups-from t m cur n (part s l ws rest)
     ≡ elim x [ true ↦ groups-from t m (cur ⊕ part s l ws nil) (n + 1) rest | false ↦ cur ∷ groups-from t m (part s l ws nil) 1 rest ]
 unfolding groups-from grows
 from-part t m cur n s l ws rest x e =
     ap (λ (b : Bool). elim b [ true ↦ groups-from t m (cur ⊕ part s l ws nil) (n + 1) rest | false ↦ cur ∷ groups-from t m (part s l ws nil) 1 rest ]) e
 
-pub one-part : (t : Option ℕ) (s n : ℕ) (ws : List ℕ) → total t (part s n ws nil) ≡ 1
+pub one-part : (t : SetType) (s n : ℕ) (ws : List ℕ) → total t (part s n ws nil) ≡ 1
 unfolding total
 one-part t s n ws = refl
 
 -- the first tree of the row
-pub row-sizable : {w : List ℕ} {node k kd i : ℕ} (p : Row w node k kd i) → 1 ≤ k → Sizable w node kd
+pub row-sizable : {w : List ℕ} {node k kd i : ℕ} (p : Row w node k kd i) → 1 ≤ k → Sizable w node kd i
 row-sizable {w} {node} p l =
     let some-tree : 1 ≤ siblings (p .us ⊕ p .tail) = omega (arith, siblings-⊕ (p .us) (p .tail), p .counted) in
-    rw (p .kind-is) (sizable w (p .base) (p .top) (p .low) node (p .type) (p .us ⊕ p .tail) (p .inside) some-tree (p .holds))
+    rw (p .kind-is, p .id-is) (sizable (p .type) w (p .base) (p .top) (p .low) node (p .us ⊕ p .tail) (p .inside) some-tree (p .holds))
 
 module _ {w : List ℕ} {node k kd i : ℕ} (m : ℕ) (p : Row w node k kd i) where
   pub record Growing (count size next end : ℕ) (first rest : Trees) : Type 0 where
@@ -64,22 +63,22 @@ module _ {w : List ℕ} {node k kd i : ℕ} (m : ℕ) (p : Row w node k kd i) wh
     pub some : 1 ≤ count
     pub count-is : siblings first ≡ count
     pub sum-is : total (p .type) first ≡ size
-    pub next-is : Holds w (p .base) (p .top) (p .low) next (rest ⊕ p .tail)
+    pub next-is : Holds (p .type .none-first) w (p .base) (p .top) (p .low) next (rest ⊕ p .tail)
     pub end-is : last-end 0 first ≡ end
     pub small : 2 ≤ count → size < m
 
   abbrev Started : (size end next : ℕ) → Type 0
   Started size end next = (first : Trees) × (rest : Trees) × Growing 1 size next end first rest
 
-  start-at : (us : Trees) (size end next : ℕ) → 1 ≤ k → p .us ≡ us → Holds w (p .base) (p .top) (p .low) node (us ⊕ p .tail)
+  start-at : (us : Trees) (size end next : ℕ) → 1 ≤ k → p .us ≡ us → Holds (p .type .none-first) w (p .base) (p .top) (p .low) node (us ⊕ p .tail)
       → total (p .type) us < 4294967295 → Ends us → siblings us ≡ k
       → groups (p .type) m (p .us) ≡ groups (p .type) m us
-      → size ≡ sized w node (kind (p .type)) (id-word (p .type)) → end ≡ word (getD w (node + 2) 0 + getD w (node + 3) 0) → next ≡ getD w (node + 5) 0 → Started size end next
+      → size ≡ sized w node (stored-kind (p .type)) (stored-id (p .type)) → end ≡ word (getD w (node + 2) 0 + getD w (node + 3) 0) → next ≡ getD w (node + 5) 0 → Started size end next
   unfolding siblings _⊕_ groups last-end
   start-at nil size end next l e h few ends counted f es ee en = absurd (omega arith)
   start-at (tree u s n kids rest) size end next l e h few ends counted f es ee en =
       let c : Trees = tree u s n kids nil in
-      let x = size-tree w (p .base) (p .top) (p .low) node (p .type) u s n kids (rest ⊕ p .tail) h in
+      let x = size-tree (p .type) w (p .base) (p .top) (p .low) node u s n kids (rest ⊕ p .tail) h in
       let y = total-⊕ (p .type) c rest in
       let z : size ≡ total (p .type) c = omega (arith, x, y, es) in (
         c,
@@ -97,7 +96,7 @@ module _ {w : List ℕ} {node k kd i : ℕ} (m : ℕ) (p : Row w node k kd i) wh
       )
   start-at (part s n ws rest) size end next l e h few ends counted f es ee en =
       let c : Trees = part s n ws nil in
-      let x = size-part w (p .base) (p .top) (p .low) node (p .type) s n ws (rest ⊕ p .tail) h in
+      let x = size-part (p .type) w (p .base) (p .top) (p .low) node s n ws (rest ⊕ p .tail) h in
       let z : size ≡ 1 = es ∙ x in (
         c,
         rest,
@@ -121,22 +120,22 @@ module _ {w : List ℕ} {node k kd i : ℕ} (m : ℕ) (p : Row w node k kd i) wh
   growing-start {size} {end = end} {next = next} l es ea eb ee en =
       start-at (p .us) size end next l refl (p .holds) (p .few) (p .ends) (p .counted) refl (es ∙ rw (p .kind-is, p .id-is)) (ee ∙ rw (ea, eb)) en
 
-  sized-is : (n : ℕ) → sized w n kd i ≡ sized w n (kind (p .type)) (id-word (p .type))
+  sized-is : (n : ℕ) → sized w n kd i ≡ sized w n (stored-kind (p .type)) (stored-id (p .type))
   sized-is n = rw (p .kind-is, p .id-is)
 
   -- the next tree is one too much
-  stop : (size next : ℕ) (first rest : Trees) (x grown : ℕ) → Holds w (p .base) (p .top) (p .low) next (rest ⊕ p .tail) → 1 ≤ siblings rest
+  stop : (size next : ℕ) (first rest : Trees) (x grown : ℕ) → Holds (p .type .none-first) w (p .base) (p .top) (p .low) next (rest ⊕ p .tail) → 1 ≤ siblings rest
       → size + total (p .type) rest < 4294967295
-      → x ≡ sized w next (kind (p .type)) (id-word (p .type)) → grown ≡ word (size + x) → m ≤ grown
+      → x ≡ sized w next (stored-kind (p .type)) (stored-id (p .type)) → grown ≡ word (size + x) → m ≤ grown
       → groups-from (p .type) m first size rest ≡ first ∷ groups (p .type) m rest
   unfolding groups groups-from siblings _⊕_
   stop size next first nil x grown h q few ex eg over = absurd (omega arith)
   stop size next first (tree u s n kids rest) x grown h q few ex eg over =
       let c : Trees = tree u s n kids nil in
-      let y = size-tree w (p .base) (p .top) (p .low) next (p .type) u s n kids (rest ⊕ p .tail) h in
+      let y = size-tree (p .type) w (p .base) (p .top) (p .low) next u s n kids (rest ⊕ p .tail) h in
       from-tree (p .type) m first size u s n kids rest false (le-ltb (size + total (p .type) c) m (omega (arith, ex, eg, y)))
   stop size next first (part s n ws rest) x grown h q few ex eg over =
-      let y = size-part w (p .base) (p .top) (p .low) next (p .type) s n ws (rest ⊕ p .tail) h in
+      let y = size-part (p .type) w (p .base) (p .top) (p .low) next s n ws (rest ⊕ p .tail) h in
       from-part (p .type) m first size s n ws rest false (le-ltb (size + 1) m (omega (arith, ex, eg, y)))
 
   -- the next tree joins the group
@@ -144,16 +143,16 @@ module _ {w : List ℕ} {node k kd i : ℕ} (m : ℕ) (p : Row w node k kd i) wh
   Grown count grown next′ end′ = (first : Trees) × (rest : Trees) × Growing (count + 1) grown next′ end′ first rest
 
   step : (count size next end : ℕ) (first rest : Trees) → Growing count size next end first rest → (x grown next′ end′ : ℕ)
-      → Holds w (p .base) (p .top) (p .low) next (rest ⊕ p .tail) → Ends rest → 1 ≤ siblings rest
+      → Holds (p .type .none-first) w (p .base) (p .top) (p .low) next (rest ⊕ p .tail) → Ends rest → 1 ≤ siblings rest
       → size + total (p .type) rest < 4294967295
-      → x ≡ sized w next (kind (p .type)) (id-word (p .type)) → grown ≡ word (size + x) → grown < m → m ≤ 4294967295
+      → x ≡ sized w next (stored-kind (p .type)) (stored-id (p .type)) → grown ≡ word (size + x) → grown < m → m ≤ 4294967295
       → end′ ≡ word (getD w (next + 2) 0 + getD w (next + 3) 0) → next′ ≡ getD w (next + 5) 0
       → p .us ≡ first ⊕ rest → groups (p .type) m (p .us) ≡ groups-from (p .type) m first size rest → Grown count grown next′ end′
   unfolding groups-from siblings _⊕_
   step count size next end first nil g x grown next′ end′ h ends q few ex eg under fits ee en sp fr = absurd (omega arith)
   step count size next end first (tree u s n kids rest) g x grown next′ end′ h ends q few ex eg under fits ee en sp fr =
       let c : Trees = tree u s n kids nil in
-      let y = size-tree w (p .base) (p .top) (p .low) next (p .type) u s n kids (rest ⊕ p .tail) h in
+      let y = size-tree (p .type) w (p .base) (p .top) (p .low) next u s n kids (rest ⊕ p .tail) h in
       let v = total-⊕ (p .type) c rest in
       let z : grown ≡ size + total (p .type) c = omega (arith, ex, eg, y, v) in (
         first ⊕ c,
@@ -172,7 +171,7 @@ module _ {w : List ℕ} {node k kd i : ℕ} (m : ℕ) (p : Row w node k kd i) wh
       )
   step count size next end first (part s n ws rest) g x grown next′ end′ h ends q few ex eg under fits ee en sp fr =
       let c : Trees = part s n ws nil in
-      let y = size-part w (p .base) (p .top) (p .low) next (p .type) s n ws (rest ⊕ p .tail) h in
+      let y = size-part (p .type) w (p .base) (p .top) (p .low) next s n ws (rest ⊕ p .tail) h in
       let v = total-⊕ (p .type) c rest in
       let o = one-part (p .type) s n ws in
       let z : grown ≡ size + 1 = omega (arith, ex, eg, y, v, o) in (
@@ -201,10 +200,10 @@ module _ {w : List ℕ} {node k kd i : ℕ} (m : ℕ) (p : Row w node k kd i) wh
     ends-rest : Ends rest
     ends-rest = ends-⊕ first rest (rw (g .split) at (p .ends))
 
-    pub growing-sizable : count < k → Sizable w next kd
+    pub growing-sizable : count < k → Sizable w next kd i
     growing-sizable l =
         let some-tree : 1 ≤ siblings (rest ⊕ p .tail) = omega (arith, left-over, siblings-⊕ rest (p .tail)) in
-        rw (p .kind-is) (sizable w (p .base) (p .top) (p .low) next (p .type) (rest ⊕ p .tail) (p .inside) some-tree (g .next-is))
+        rw (p .kind-is, p .id-is) (sizable (p .type) w (p .base) (p .top) (p .low) next (rest ⊕ p .tail) (p .inside) some-tree (g .next-is))
 
     -- the group is the whole row
     pub growing-end : k ≤ count → Grouped w node k kd i m p count size next end

@@ -9,10 +9,9 @@ use borrow.Author.Tests.{eq-eqb, ne-eqb}
 use lib.Dec.{eqb}
 use lib.ListN.{length, getD}
 use Rattle.tree.specs.Trees.{Trees, nil, tree, part, _⊕_, siblings}
-use Rattle.tree.specs.Cells.{kind, id-word}
-use Rattle.tree.specs.Balance.{same-type, lone, is-tree, joined}
-use Rattle.store.specs.Store.{Holds, Readable, PushedTree}
-use Rattle.store.proofs.Unique.{not-part}
+use Rattle.tree.specs.Balance.{SetType, same-type, lone, is-tree, joined}
+use Rattle.store.specs.Store.{Holds, Readable, PushedTree, typed, stored-kind, stored-id}
+use Rattle.store.proofs.Types.{typed-is, typed-part}
 use Rattle.store.proofs.Frame.{readable}
 use Rattle.balance_core.specs.Ready.{CopyReady, Copied, JoinReady, Joined, alone}
 use Rattle.tree.proofs.ListingLaws.{⊕-nil}
@@ -26,59 +25,53 @@ module _ (w : List ℕ) (n k i s l : ℕ) where
     pub alone-next : (a ≡ 0 → ⊥) → false ≡ alone w n k i s l
     alone-next h = rw (ne-eqb n 0 live, ← ea, ne-eqb a 0 h)
 
-    module _ (za : a ≡ 0) {b : ℕ} (eb : b ≡ getD w n 0) where
-      pub alone-kind : (b ≡ k → ⊥) → false ≡ alone w n k i s l
-      alone-kind h = rw (ne-eqb n 0 live, ← ea, eq-eqb a 0 za, ← eb, ne-eqb k b (λ x. h (sym x)))
+    module _ (za : a ≡ 0) {b : Bool} (eb : b ≡ typed w n k i) where
+      pub alone-type : b ≡ false → false ≡ alone w n k i s l
+      alone-type h = rw (ne-eqb n 0 live, ← ea, eq-eqb a 0 za, ← eb, h)
 
-      module _ (zb : b ≡ k) {c : ℕ} (ec : c ≡ getD w (n + 1) 0) where
-        pub alone-id : (c ≡ i → ⊥) → false ≡ alone w n k i s l
-        alone-id h = rw (ne-eqb n 0 live, ← ea, eq-eqb a 0 za, ← eb, eq-eqb k b (sym zb), ← ec, ne-eqb i c (λ x. h (sym x)))
+      module _ (zb : b ≡ true) {d : ℕ} (ed : d ≡ getD w (n + 2) 0) where
+        pub alone-start : (d ≡ s → ⊥) → false ≡ alone w n k i s l
+        alone-start h = rw (ne-eqb n 0 live, ← ea, eq-eqb a 0 za, ← eb, zb, ← ed, ne-eqb s d (λ x. h (sym x)))
 
-        module _ (zc : c ≡ i) {d : ℕ} (ed : d ≡ getD w (n + 2) 0) where
-          pub alone-start : (d ≡ s → ⊥) → false ≡ alone w n k i s l
-          alone-start h = rw (ne-eqb n 0 live, ← ea, eq-eqb a 0 za, ← eb, eq-eqb k b (sym zb), ← ec, eq-eqb i c (sym zc), ← ed, ne-eqb s d (λ x. h (sym x)))
+        module _ (zd : d ≡ s) {e : ℕ} (ee : e ≡ getD w (n + 3) 0) where
+          pub alone-length : (e ≡ l → ⊥) → false ≡ alone w n k i s l
+          alone-length h = rw (ne-eqb n 0 live, ← ea, eq-eqb a 0 za, ← eb, zb, ← ed, eq-eqb s d (sym zd), ← ee, ne-eqb l e (λ x. h (sym x)))
 
-          module _ (zd : d ≡ s) {e : ℕ} (ee : e ≡ getD w (n + 3) 0) where
-            pub alone-length : (e ≡ l → ⊥) → false ≡ alone w n k i s l
-            alone-length h = rw (ne-eqb n 0 live, ← ea, eq-eqb a 0 za, ← eb, eq-eqb k b (sym zb), ← ec, eq-eqb i c (sym zc), ← ed, eq-eqb s d (sym zd), ← ee, ne-eqb l e (λ x. h (sym x)))
+          pub alone-yes : e ≡ l → true ≡ alone w n k i s l
+          alone-yes h = rw (ne-eqb n 0 live, ← ea, eq-eqb a 0 za, ← eb, zb, ← ed, eq-eqb s d (sym zd), ← ee, eq-eqb l e (sym h))
 
-            pub alone-yes : e ≡ l → true ≡ alone w n k i s l
-            alone-yes h = rw (ne-eqb n 0 live, ← ea, eq-eqb a 0 za, ← eb, eq-eqb k b (sym zb), ← ec, eq-eqb i c (sym zc), ← ed, eq-eqb s d (sym zd), ← ee, eq-eqb l e (sym h))
+four : (a b d e : Bool) → cond a (cond b (cond d (cond e true false) false) false) false ≡ (a && (b && (d && e)))
+four false b d e = refl
+four true false d e = refl
+four true true false e = refl
+four true true true false = refl
+four true true true true = refl
 
-five : (a b c d e : Bool) → cond a (cond b (cond c (cond d (cond e true false) false) false) false) false ≡ (a && ((b && c) && (d && e)))
-five false b c d e = refl
-five true false c d e = refl
-five true true false d e = refl
-five true true true false e = refl
-five true true true true false = refl
-five true true true true true = refl
+no-type : (a : Bool) → cond a false false ≡ false
+no-type true = refl
+no-type false = refl
 
-no-kind : (a : Bool) → cond a false false ≡ false
-no-kind true = refl
-no-kind false = refl
-
-same-words : (t u : Option ℕ) → (eqb (kind t) (kind u) && eqb (id-word t) (id-word u)) ≡ same-type t u
-unfolding same-type kind id-word
-same-words none none = refl
-same-words none (some i) = refl
-same-words (some r) none = refl
-same-words (some r) (some i) = refl
-
-lone-next : (w : List ℕ) (base top low n : ℕ) (t : Option ℕ) (s l : ℕ) (kids rest : Trees) → Holds w base top low n rest → eqb n 0 ≡ lone (tree t s l kids rest)
+lone-next : (f : Bool) (w : List ℕ) (base top low n : ℕ) (t : Option ℕ) (s l : ℕ) (kids rest : Trees) → Holds f w base top low n rest → eqb n 0 ≡ lone (tree t s l kids rest)
 unfolding lone
-lone-next w base top low n t s l kids nil h = eq-eqb n 0 h
-lone-next w base top low n t s l kids (tree u s′ l′ ks more) h = ne-eqb n 0 (λ e. omega (arith, h .node .live))
-lone-next w base top low n t s l kids (part s′ l′ ws more) h = ne-eqb n 0 (λ e. omega (arith, h .node .live))
+lone-next f w base top low n t s l kids nil h = eq-eqb n 0 h
+lone-next f w base top low n t s l kids (tree u s′ l′ ks more) h = ne-eqb n 0 (λ e. omega (arith, h .node .live))
+lone-next f w base top low n t s l kids (part s′ l′ ws more) h = ne-eqb n 0 (λ e. omega (arith, h .node .live))
 
-pub alone-is : (w : List ℕ) (base top low n : ℕ) (t : Option ℕ) (s l : ℕ) (ts : Trees) → Holds w base top low n ts → alone w n (kind t) (id-word t) s l ≡ is-tree t s l ts
+pub alone-is : (t : SetType) (w : List ℕ) (base top low n s l : ℕ) (ts : Trees) → Holds (t .none-first) w base top low n ts
+    → alone w n (stored-kind t) (stored-id t) s l ≡ is-tree t s l ts
 unfolding is-tree
-alone-is w base top low n t s l nil h = rw (eq-eqb n 0 h)
-alone-is w base top low n t s l (part s′ l′ ws rest) h =
-    rw (ne-eqb n 0 (λ e. omega (arith, h .node .live)), h .node .kind-at, ne-eqb (kind t) 2 (not-part t)) (no-kind (eqb (getD w (n + 5) 0) 0))
-alone-is w base top low n t s l (tree u s′ l′ kids rest) h =
-    rw (ne-eqb n 0 (λ e. omega (arith, h .node .live)), h .node .kind-at, h .node .id-at, h .node .start-at, h .node .length-at, lone-next w base top low _ u s′ l′ kids rest (h .next))
-    (five (lone (tree u s′ l′ kids rest)) (eqb (kind t) (kind u)) (eqb (id-word t) (id-word u)) (eqb s s′) (eqb l l′)
-    ∙ ap (λ (x : Bool). lone (tree u s′ l′ kids rest) && (x && (eqb s s′ && eqb l l′))) (same-words t u))
+alone-is t w base top low n s l nil h = rw (eq-eqb n 0 h)
+alone-is t w base top low n s l (part s′ l′ ws rest) h =
+    rw (ne-eqb n 0 (λ e. omega (arith, h .node .live)), typed-part (t .none-first) (t .type) w n (h .node .kind-at)) (no-type (eqb (getD w (n + 5) 0) 0))
+alone-is t w base top low n s l (tree u s′ l′ kids rest) h =
+    rw (
+      ne-eqb n 0 (λ e. omega (arith, h .node .live)),
+      typed-is (t .none-first) (t .type) u w n (h .node .kind-at) (h .node .id-at),
+      h .node .start-at,
+      h .node .length-at,
+      lone-next (t .none-first) w base top low _ u s′ l′ kids rest (h .next),
+    )
+    (four (lone (tree u s′ l′ kids rest)) (same-type t u) (eqb s s′) (eqb l l′))
 
 and-first : (a b : Bool) → (a && b) ≡ true → a ≡ true
 and-first true b e = refl
@@ -90,26 +83,26 @@ lone-one t s l kids nil e = refl
 lone-one t s l kids (tree u s′ l′ ks more) e = let z : _≡_ {A = Bool} true false = sym e in let y : _≡_ {A = ℕ} 0 1 = cc in absurd (omega arith)
 lone-one t s l kids (part s′ l′ ws more) e = let z : _≡_ {A = Bool} true false = sym e in let y : _≡_ {A = ℕ} 0 1 = cc in absurd (omega arith)
 
-pub is-one : (t : Option ℕ) (s l : ℕ) (ts : Trees) → is-tree t s l ts ≡ true → siblings ts ≡ 1
+pub is-one : (t : SetType) (s l : ℕ) (ts : Trees) → is-tree t s l ts ≡ true → siblings ts ≡ 1
 unfolding is-tree
 is-one t s l nil e = let y : _≡_ {A = ℕ} 0 1 = cc in absurd (omega arith)
 is-one t s l (part s′ l′ ws rest) e = let y : _≡_ {A = ℕ} 0 1 = cc in absurd (omega arith)
 is-one t s l (tree u s′ l′ kids rest) e = lone-one u s′ l′ kids rest (and-first _ _ e)
 
-joined-same : (t : Option ℕ) (s l : ℕ) (ts : Trees) → is-tree t s l ts ≡ true → joined t s l ts ≡ ts
+joined-same : (t : SetType) (s l : ℕ) (ts : Trees) → is-tree t s l ts ≡ true → joined t s l ts ≡ ts
 unfolding joined
-joined-same t s l ts e = ap (λ (b : Bool). elim b [ true ↦ ts | false ↦ tree t s l ts nil ]) e
+joined-same t s l ts e = ap (λ (b : Bool). elim b [ true ↦ ts | false ↦ tree (t .type) s l ts nil ]) e
 
-joined-new : (t : Option ℕ) (s l : ℕ) (ts rest : Trees) → is-tree t s l ts ≡ false → joined t s l ts ⊕ rest ≡ tree t s l ts rest
+joined-new : (t : SetType) (s l : ℕ) (ts rest : Trees) → is-tree t s l ts ≡ false → joined t s l ts ⊕ rest ≡ tree (t .type) s l ts rest
 unfolding joined _⊕_
-joined-new t s l ts rest e = ap (λ (b : Bool). elim b [ true ↦ ts | false ↦ tree t s l ts nil ] ⊕ rest) e
+joined-new t s l ts rest e = ap (λ (b : Bool). elim b [ true ↦ ts | false ↦ tree (t .type) s l ts nil ] ⊕ rest) e
 
 module _ {w : List ℕ} {top node kd i next : ℕ} where
   pub join-node : JoinReady w top node kd i next → Readable w node
-  join-node p = readable w (p .base) top (p .low) node (p .ts) (omega (arith, p .room, p .inside)) (p .holds)
+  join-node p = readable (p .type .none-first) w (p .base) top (p .low) node (p .ts) (omega (arith, p .room, p .inside)) (p .holds)
 
   pub join-next : JoinReady w top node kd i next → Readable w next
-  join-next p = readable w (p .base) top (p .low) next (p .rest) (omega (arith, p .room, p .inside)) (p .onto)
+  join-next p = readable (p .type .none-first) w (p .base) top (p .low) next (p .rest) (omega (arith, p .room, p .inside)) (p .onto)
 
   pub join-room : JoinReady w top node kd i next → top + 10 ≤ length w
   join-room p = omega (arith, p .room, p .inside)
@@ -120,10 +113,11 @@ module _ {w : List ℕ} {top node kd i next : ℕ} where
 -- by the test's answer
 module _ (s l : ℕ) {w : List ℕ} {node kd i : ℕ} {x : Bool} (e : x ≡ alone w node kd i s l) where
   pub is-at : {top next : ℕ} (p : JoinReady w top node kd i next) → is-tree (p .type) s l (p .ts) ≡ x
-  is-at {top} p = sym (e ∙ rw (p .kind-is, p .id-is) (alone-is w (p .base) top (p .low) node (p .type) s l (p .ts) (p .holds)))
+  is-at {top} p = sym (e ∙ rw (p .kind-is, p .id-is) (alone-is (p .type) w (p .base) top (p .low) node s l (p .ts) (p .holds)))
 
   abbrev pub join-copy : x ≡ true → {top next : ℕ} → JoinReady w top node kd i next → CopyReady w top node next
   join-copy y p = record {
+    none-first = p .type .none-first;
     base = p .base;
     low = p .low;
     first = p .ts;
@@ -153,5 +147,5 @@ module _ (s l : ℕ) {w : List ℕ} {node kd i : ℕ} {x : Bool} (e : x ≡ alon
     top-is = refl;
     kept = q .kept;
     holds = λ p. rw (joined-new (p .type) s l (p .ts) (p .rest) (is-at p ∙ y))
-        (q .holds (p .base) (p .low) (p .type) (p .ts) (p .rest) (p .live) (p .above) (p .room) (p .kind-is) (p .id-is) (p .holds) (p .onto));
+        (q .holds (p .type .none-first) (p .base) (p .low) (p .type .type) (p .ts) (p .rest) (p .live) (p .above) (p .room) (p .kind-is) (p .id-is) (p .holds) (p .onto));
   }

@@ -6,7 +6,7 @@ use mathlib.Core.Option.{Option}
 use Prim.Native.Nat.{ℕ, suc, _+_, _-_, _≤_}
 use native.Mathlib.Omega.{arith}
 use Rattle.tree.specs.Trees.{Trees, nil, tree, part, _⊕_, siblings, last-end}
-use Rattle.tree.specs.Balance.{same-type, all-of, total}
+use Rattle.tree.specs.Balance.{SetType, same-type, all-of, total}
 
 pub siblings-⊕ : (ts us : Trees) → siblings (ts ⊕ us) ≡ siblings ts + siblings us
 unfolding siblings _⊕_
@@ -20,7 +20,7 @@ siblings-none nil e = refl
 siblings-none (tree t s l kids rest) e = absurd (omega arith)
 siblings-none (part s l ws rest) e = absurd (omega arith)
 
-pub siblings-total : (t : Option ℕ) (ts : Trees) → siblings ts ≤ total t ts
+pub siblings-total : (t : SetType) (ts : Trees) → siblings ts ≤ total t ts
 unfolding siblings total
 siblings-total t nil = omega arith
 siblings-total t (tree u s l kids rest) = go (same-type t u && all-of t kids) (siblings-total t rest)

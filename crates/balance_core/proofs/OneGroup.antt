@@ -2,18 +2,17 @@
 use mathlib.Core.Path.{_≡_, refl, sym, ap, _∙_}
 use mathlib.Core.Bool.{true}
 use mathlib.Core.List.{List, [], _∷_}
-use mathlib.Core.Option.{Option}
 use Prim.Native.Nat.{ℕ, _+_, _≤_, _<_}
 use native.Mathlib.Omega.{arith}
 use borrow.Author.Tests.{lt-ltb}
 use Rattle.tree.specs.Trees.{Trees, nil, tree, part, _⊕_, siblings}
-use Rattle.tree.specs.Balance.{total, groups, groups-from}
+use Rattle.tree.specs.Balance.{SetType, total, groups, groups-from}
 use Rattle.tree.proofs.ListingLaws.{⊕-nil, ⊕-assoc}
 use Rattle.tree.proofs.FuelLaws.{total-⊕}
 use Rattle.balance_core.specs.Rows.{Row, Grouped}
 use Rattle.balance_core.proofs.Growth.{from-tree, from-part, one-part}
 
-module _ (t : Option ℕ) (m : ℕ) where
+module _ (t : SetType) (m : ℕ) where
   one-from : (cur : Trees) (n : ℕ) (ts : Trees) → n + total t ts < m → groups-from t m cur n ts ≡ (cur ⊕ ts) ∷ []
   unfolding groups-from _⊕_
   one-from cur n nil l = ap (λ (x : Trees). x ∷ []) (sym (⊕-nil cur))

@@ -4,7 +4,7 @@ use mathlib.Core.List.{List}
 use Prim.Native.Nat.{ℕ, suc, _+_, _≤_}
 use native.Mathlib.Omega.{arith}
 use Rattle.tree.specs.Trees.{Trees, nil, _⊕_}
-use Rattle.tree.specs.Balance.{total, share, divide, balance}
+use Rattle.tree.specs.Balance.{under, total, share, divide, balance}
 use Rattle.tree.proofs.ListingLaws.{⊕-nil}
 use Rattle.store.specs.Store.{Holds}
 use Rattle.store.proofs.Frame.{same-less, frame}
@@ -45,12 +45,12 @@ module _ {w : List ℕ} {top stack node k kd i okd oi size next m : ℕ} (em : m
     pub stack-room : (p : BalanceReady w top stack node k kd i okd oi size next) → high + 10 ≤ stack
     stack-room p = omega (arith, d .used, p .row .room)
 
-    pub next-held : (p : BalanceReady w top stack node k kd i okd oi size next) → Holds w₁ (p .row .base) high (p .row .low) next (p .row .rest)
+    pub next-held : (p : BalanceReady w top stack node k kd i okd oi size next) → Holds (p .row .type .none-first) w₁ (p .row .base) high (p .row .low) next (p .row .rest)
     next-held p =
-        frame w w₁ (p .row .base) top (p .row .low) high (p .row .low) (d .grown) (omega arith)
+        frame (p .row .type .none-first) w w₁ (p .row .base) top (p .row .low) high (p .row .low) (d .grown) (omega arith)
         (same-less w w₁ 0 top stack (p .row .base) top (p .row .low) (omega arith) (omega arith) (p .row .under) (d .kept)) next (p .row .rest) (p .row .onto)
 
-    pub kids-made : (p : BalanceReady w top stack node k kd i okd oi size next) → Holds w₁ (p .row .base) high (p .row .low) kids (kids-of-row p)
+    pub kids-made : (p : BalanceReady w top stack node k kd i okd oi size next) → Holds (p .row .type .none-first) w₁ (p .row .base) high (p .row .low) kids (kids-of-row p)
     kids-made p =
         let e : m ≡ share (total (p .row .type) (p .row .us)) = em ∙ ap share (sym (p .row .size-is)) in
         let us : Trees = p .row .us in
@@ -62,7 +62,7 @@ module _ {w : List ℕ} {top stack node k kd i okd oi size next m : ℕ} (em : m
     join-ready p = record {
       base = p .row .base;
       low = p .row .low;
-      type = p .own;
+      type = under (p .row .type .none-first) (p .own);
       ts = kids-of-row p;
       rest = p .row .rest;
       live = p .row .live;

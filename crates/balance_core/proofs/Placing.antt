@@ -2,14 +2,13 @@
 use mathlib.Core.Path.{_≡_, refl, sym, ap, _∙_}
 use mathlib.Core.Bool.{Bool, true, false}
 use mathlib.Core.List.{List}
-use mathlib.Core.Option.{Option}
 use Prim.Native.Nat.{ℕ, _+_, _-_, _≤_, _<_}
 use native.Mathlib.Omega.{arith}
 use borrow.Author.Tests.{lt-ltb, le-ltb}
 use lib.Dec.{ltb}
 use lib.ListN.{getD}
 use Rattle.tree.specs.Trees.{Trees, nil, tree, part, _⊕_, siblings, kids-of, first-start, last-end}
-use Rattle.tree.specs.Balance.{total, share, groups, lone, joined, placed, each, balance}
+use Rattle.tree.specs.Balance.{SetType, total, share, groups, lone, joined, placed, each, balance}
 use Rattle.tree.proofs.FuelLaws.{total-kids, divided-by, divided-again}
 use Rattle.store.specs.Store.{Holds}
 use Rattle.balance_core.specs.Rows.{Ends}
@@ -35,7 +34,7 @@ many-lone (part s l ws nil) e = absurd (omega arith)
 many-lone (part s l ws (tree u s′ l′ ks more)) e = refl
 many-lone (part s l ws (part s′ l′ ws′ more)) e = refl
 
-module _ (t : Option ℕ) (m : ℕ) (g : Trees) where
+module _ (t : SetType) (m : ℕ) (g : Trees) where
   placed-by : (again : ℕ → Trees → Trees) (x y : Bool) → lone g ≡ x → ltb m (total t g) ≡ y
       → placed again t m g ≡ elim x [ true ↦ elim y [ true ↦ again m (kids-of g) | false ↦ g ] | false ↦ joined t (first-start g) (last-end 0 g - first-start g) (again (share (total t g)) g) ]
   unfolding placed
@@ -64,15 +63,15 @@ kids-ends nil e = tt
 kids-ends (tree u s l kids rest) e = e .inner
 kids-ends (part s l ws rest) e = tt
 
-module _ (w : List ℕ) (base top low n : ℕ) where
+module _ (f : Bool) (w : List ℕ) (base top low n : ℕ) where
   -- the children of the first tree of a list, where it weighs more than 1
-  pub kids-held : (t : Option ℕ) (g rest : Trees) → siblings g ≡ 1 → 1 < total t g → Holds w base top low n (g ⊕ rest) → Holds w base top low (getD w (n + 4) 0) (kids-of g)
+  pub kids-held : (t : SetType) (g rest : Trees) → siblings g ≡ 1 → 1 < total t g → Holds f w base top low n (g ⊕ rest) → Holds f w base top low (getD w (n + 4) 0) (kids-of g)
   unfolding siblings kids-of _⊕_ total
   kids-held t nil rest o h k = absurd (omega arith)
   kids-held t (tree u s l kids more) rest o h k = k .first
   kids-held t (part s l ws more) rest o h k = let z : more ≡ nil = siblings-none more (omega arith) in absurd (omega (arith, ap (total t) z, h))
 
-  pub start-held : (g rest : Trees) → 1 ≤ siblings g → Holds w base top low n (g ⊕ rest) → first-start g ≡ getD w (n + 2) 0
+  pub start-held : (g rest : Trees) → 1 ≤ siblings g → Holds f w base top low n (g ⊕ rest) → first-start g ≡ getD w (n + 2) 0
   unfolding siblings first-start _⊕_
   start-held nil rest o h = absurd (omega arith)
   start-held (tree u s l kids more) rest o h = sym (h .node .start-at)

@@ -40,7 +40,7 @@ module _ {w₀ : List ℕ} {stack node k kd i m : ℕ} (p : PushReady w₀ stack
     pub kept : Same w₀ w 0 sp stack
     pub down : sp ≤ stack
     pub room : p .top + 4 * total (p .type) rest ≤ sp
-    pub holds : Holds w (p .base) (p .top) (p .low) at (rest ⊕ p .tail)
+    pub holds : Holds (p .type .none-first) w (p .base) (p .top) (p .low) at (rest ⊕ p .tail)
     pub counted : siblings rest ≡ left
     pub few : total (p .type) rest < 4294967295
     pub ends : Ends rest
@@ -122,10 +122,10 @@ module _ {w₀ : List ℕ} {stack node k kd i m : ℕ} (p : PushReady w₀ stack
         node-at : getD w′ sp′ 0 ≡ at
         node-at = let z : sp′ + 0 ≡ sp′ = omega arith in rw z at (word 0 (omega arith))
 
-        held : Holds w′ (p .base) (p .top) (p .low) at (g .first ⊕ (g .rest ⊕ p .tail))
+        held : Holds (p .type .none-first) w′ (p .base) (p .top) (p .low) at (g .first ⊕ (g .rest ⊕ p .tail))
         held =
             let q : rest ⊕ p .tail ≡ g .first ⊕ (g .rest ⊕ p .tail) = ap (λ (x : Trees). x ⊕ p .tail) (g .split) ∙ ⊕-assoc (g .first) (g .rest) (p .tail) in
-            rw q at (frame w w′ (p .base) (p .top) (p .low) (p .top) (p .low) (omega arith) (omega arith) same-low at (rest ⊕ p .tail) (h .holds))
+            rw q at (frame (p .type .none-first) w w′ (p .base) (p .top) (p .low) (p .top) (p .low) (omega arith) (omega arith) same-low at (rest ⊕ p .tail) (h .holds))
 
         waits : Pending w′ (p .base) (p .top) (p .low) (p .type) m sp (p .bottom) cur
         waits = pending-frame w (p .base) (p .top) (p .low) (p .type) m w′ (p .top) sp sp (p .bottom) cur (omega arith) (omega arith) low-le
@@ -140,7 +140,7 @@ module _ {w₀ : List ℕ} {stack node k kd i m : ℕ} (p : PushReady w₀ stack
           };
           down = omega (arith, h .down);
           room = top-le;
-          holds = frame w w′ (p .base) (p .top) (p .low) (p .top) (p .low) (omega arith) (omega arith) same-low next (g .rest ⊕ p .tail) (g .next-is);
+          holds = frame (p .type .none-first) w w′ (p .base) (p .top) (p .low) (p .top) (p .low) (omega arith) (omega arith) same-low next (g .rest ⊕ p .tail) (g .next-is);
           counted = omega (arith, counts);
           few = omega (arith, h .few, sums);
           ends = ends-back (g .first) (g .rest) (rw (g .split) at (h .ends));

@@ -2,12 +2,11 @@
 -- stay. By induction on the list of groups. Assumes nothing.
 use mathlib.Core.Path.{_≡_, refl, sym, ap, _∙_}
 use mathlib.Core.List.{List, [], _∷_}
-use mathlib.Core.Option.{Option}
 use Prim.Native.Nat.{ℕ, _+_, _*_, _≤_}
 use native.Mathlib.Omega.{arith}
 use lib.ListN.{length, getD}
 use Rattle.tree.specs.Trees.{Trees, _⊕_, siblings}
-use Rattle.tree.specs.Balance.{total, groups, each}
+use Rattle.tree.specs.Balance.{SetType, total, groups, each}
 use Rattle.tree.proofs.ListingLaws.{⊕-assoc}
 use Rattle.tree.proofs.FuelLaws.{total-⊕}
 use Rattle.tree.proofs.BalanceLaws.{each-groups}
@@ -35,19 +34,19 @@ unfolding unwound
 unwound-step f g gs ts = refl
 
 -- the sizes of the groups, summed
-unfoldable pub weight : (t : Option ℕ) → List Trees → ℕ
+unfoldable pub weight : (t : SetType) → List Trees → ℕ
 weight t [] = 0
 weight t (g ∷ gs) = total t g + weight t gs
 
-pub weight-none : (t : Option ℕ) → weight t [] ≡ 0
+pub weight-none : (t : SetType) → weight t [] ≡ 0
 unfolding weight
 weight-none t = refl
 
-pub weight-more : (t : Option ℕ) (g : Trees) (gs : List Trees) → weight t (g ∷ gs) ≡ total t g + weight t gs
+pub weight-more : (t : SetType) (g : Trees) (gs : List Trees) → weight t (g ∷ gs) ≡ total t g + weight t gs
 unfolding weight
 weight-more t g gs = refl
 
-pub weight-stacked : (t : Option ℕ) (gs below : List Trees) → weight t (stacked gs below) ≡ weight t gs + weight t below
+pub weight-stacked : (t : SetType) (gs below : List Trees) → weight t (stacked gs below) ≡ weight t gs + weight t below
 unfolding weight stacked
 weight-stacked t [] below = omega arith
 weight-stacked t (g ∷ gs) below = weight-stacked t gs (g ∷ below) ∙ omega arith
@@ -57,15 +56,15 @@ unfolding stacked
 length-stacked [] below = omega arith
 length-stacked (g ∷ gs) below = length-stacked gs (g ∷ below) ∙ omega arith
 
-weight-each : (t : Option ℕ) (gs : List Trees) → weight t gs ≡ total t (each (λ g. g) gs)
+weight-each : (t : SetType) (gs : List Trees) → weight t gs ≡ total t (each (λ g. g) gs)
 unfolding weight each total
 weight-each t [] = refl
 weight-each t (g ∷ gs) = omega (arith, weight-each t gs, total-⊕ t g (each (λ x. x) gs))
 
-pub weight-groups : (t : Option ℕ) (m : ℕ) (us : Trees) → weight t (groups t m us) ≡ total t us
+pub weight-groups : (t : SetType) (m : ℕ) (us : Trees) → weight t (groups t m us) ≡ total t us
 weight-groups t m us = weight-each t (groups t m us) ∙ ap (total t) (each-groups t m us)
 
-module _ (w : List ℕ) (base top low : ℕ) (t : Option ℕ) (m : ℕ) where
+module _ (w : List ℕ) (base top low : ℕ) (t : SetType) (m : ℕ) where
   -- four words each
   pub pending-deep : (sp bottom : ℕ) (gs : List Trees) → Pending w base top low t m sp bottom gs → sp + 4 * length gs ≡ bottom
   pending-deep sp bottom [] h = omega (arith, h)
@@ -85,7 +84,7 @@ module _ (w : List ℕ) (base top low : ℕ) (t : Option ℕ) (m : ℕ) where
       record {
         deep = h .deep;
         tail = h .tail;
-        holds = rw zero-at (frame w w′ base top low top′ low up (omega arith) (same-less w w′ 0 top at base top low (omega arith) (omega arith) (omega arith) s) _ (g ⊕ h .tail) (h .holds));
+        holds = rw zero-at (frame (t .none-first) w w′ base top low top′ low up (omega arith) (same-less w w′ 0 top at base top low (omega arith) (omega arith) (omega arith) s) _ (g ⊕ h .tail) (h .holds));
         counted = h .counted ∙ sym (s .above (sp + 1) (omega arith));
         sized = h .sized ∙ sym (s .above (sp + 2) (omega arith));
         ended = h .ended ∙ sym (s .above (sp + 3) (omega arith));

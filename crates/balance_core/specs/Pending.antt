@@ -1,13 +1,11 @@
 -- Groups that wait to be placed: four words each in the work slice, the last one lowest. Only internal functions cite these.
 use mathlib.Core.Path.{_≡_}
 use mathlib.Core.List.{List, [], _∷_}
-use mathlib.Core.Option.{Option}
 use Prim.Native.Nat.{ℕ, _+_, _*_, _≤_, _<_}
 use lib.ListN.{length, getD}
 use Rattle.tree.specs.Trees.{Trees, _⊕_, siblings, last-end}
-use Rattle.tree.specs.Cells.{kind, id-word}
-use Rattle.tree.specs.Balance.{total, groups}
-use Rattle.store.specs.Store.{Holds, Same}
+use Rattle.tree.specs.Balance.{SetType, total, groups}
+use Rattle.store.specs.Store.{Holds, Same, stored-kind, stored-id}
 use Rattle.balance_core.specs.Rows.{Ends}
 
 -- a group's four words: its first node, how many trees, their size, their end
@@ -18,13 +16,13 @@ pub record GroupAt (w : List ℕ) (at node count size end : ℕ) : Type 0 where
   pub end-is : end ≡ getD w (at + 3) 0
 
 -- The groups `gs` under the share m wait from `sp` up to `bottom`, the first of the list at `sp`.
-abbrev pub Pending : (w : List ℕ) (base top low : ℕ) (t : Option ℕ) (m sp bottom : ℕ) → List Trees → Type 0
+abbrev pub Pending : (w : List ℕ) (base top low : ℕ) (t : SetType) (m sp bottom : ℕ) → List Trees → Type 0
 Pending w base top low t m sp bottom [] = sp ≡ bottom
 Pending w base top low t m sp bottom (g ∷ gs) =
     record {
       deep : sp + 4 ≤ bottom;
       tail : Trees;
-      holds : Holds w base top low (getD w sp 0) (g ⊕ tail);
+      holds : Holds (t .none-first) w base top low (getD w sp 0) (g ⊕ tail);
       counted : siblings g ≡ getD w (sp + 1) 0;
       sized : total t g ≡ getD w (sp + 2) 0;
       ended : last-end 0 g ≡ getD w (sp + 3) 0;
@@ -45,17 +43,17 @@ pub record PushReady (w : List ℕ) (stack node k kd i m : ℕ) : Type 0 where
   pub top : ℕ
   pub low : ℕ
   pub bottom : ℕ
-  pub type : Option ℕ
+  pub type : SetType
   pub us : Trees
   pub tail : Trees
   pub below : List Trees
   pub room : top + 4 * total type us ≤ stack
   pub under : bottom ≤ low
   pub inside : low ≤ length w
-  pub holds : Holds w base top low node (us ⊕ tail)
+  pub holds : Holds (type .none-first) w base top low node (us ⊕ tail)
   pub counted : siblings us ≡ k
-  pub kind-is : kd ≡ kind type
-  pub id-is : i ≡ id-word type
+  pub kind-is : kd ≡ stored-kind type
+  pub id-is : i ≡ stored-id type
   pub few : total type us < 4294967295
   pub ends : Ends us
   pub pending : Pending w base top low type m stack bottom below

@@ -1,24 +1,21 @@
 -- Rows of siblings in a store, their balanced sizes, and the first group of a row. Only internal functions cite these.
 use mathlib.Core.Path.{_≡_}
 use mathlib.Core.List.{List, _∷_}
-use mathlib.Core.Bool.{cond}
-use mathlib.Core.Option.{Option}
+use mathlib.Core.Bool.{true, cond}
 use Prim.Native.Nat.{ℕ, _+_, max, _≤_, _<_}
-use lib.Dec.{eqb}
 use lib.ListN.{length}
 use Rattle.tree.specs.Trees.{Trees, nil, tree, part, _⊕_, siblings, last-end}
-use Rattle.tree.specs.Cells.{kind, id-word}
-use Rattle.tree.specs.Balance.{total, groups}
-use Rattle.store.specs.Store.{Holds, Readable, liked, node-width, node-kind, node-id, node-first}
+use Rattle.tree.specs.Balance.{SetType, total, groups}
+use Rattle.store.specs.Store.{Holds, Readable, typed, liked, stored-kind, stored-id, node-width, node-first}
 
 -- a node's balanced size under a type, by what its words tell
 abbrev pub sized : (w : List ℕ) (n kind id : ℕ) → ℕ
-sized w n k i = cond (eqb (node-kind w n) k) (cond (eqb (node-id w n) i) (max 1 (liked w (node-first w n) k i)) 1) 1
+sized w n k i = cond (typed w n k i) (max 1 (liked w (node-first w n) k i)) 1
 
--- a node that can be read, and its children where it is of this kind
-pub record Sizable (w : List ℕ) (n kind : ℕ) : Type 0 where
+-- a node that can be read, and its children where it is of this type
+pub record Sizable (w : List ℕ) (n kind id : ℕ) : Type 0 where
   pub inside : n + node-width ≤ length w
-  pub kids : node-kind w n ≡ kind → Readable w (node-first w n)
+  pub kids : typed w n kind id ≡ true → Readable w (node-first w n)
 
 -- all ends fit a word
 abbrev pub Ends : Trees → Type 0
@@ -31,14 +28,14 @@ pub record Row (w : List ℕ) (node k kd i : ℕ) : Type 0 where
   pub base : ℕ
   pub top : ℕ
   pub low : ℕ
-  pub type : Option ℕ
+  pub type : SetType
   pub us : Trees
   pub tail : Trees
   pub inside : top ≤ length w
-  pub holds : Holds w base top low node (us ⊕ tail)
+  pub holds : Holds (type .none-first) w base top low node (us ⊕ tail)
   pub counted : siblings us ≡ k
-  pub kind-is : kd ≡ kind type
-  pub id-is : i ≡ id-word type
+  pub kind-is : kd ≡ stored-kind type
+  pub id-is : i ≡ stored-id type
   pub few : total type us < 4294967295
   pub ends : Ends us
 
@@ -51,6 +48,6 @@ pub record Grouped (w : List ℕ) (node k kd i m : ℕ) (p : Row w node k kd i) 
   pub some : 1 ≤ count
   pub count-is : siblings first ≡ count
   pub sum-is : total (p .type) first ≡ sum
-  pub next-is : Holds w (p .base) (p .top) (p .low) next (rest ⊕ p .tail)
+  pub next-is : Holds (p .type .none-first) w (p .base) (p .top) (p .low) next (rest ⊕ p .tail)
   pub end-is : last-end 0 first ≡ end
   pub small : 2 ≤ count → sum < m

@@ -30,15 +30,11 @@ pub struct Front {
 
 // A node's balanced size.
 fn balanced_node_size(work: &[u32], node: u32, kind: u32, id: u32) -> u32
-    requires { ⌜ Sizable (now work) node kind ⌝ }
+    requires { ⌜ Sizable (now work) node kind id ⌝ }
     ensures { λ r. ⌜ r ≡ sized (now (work .entry)) node kind id ⌝ }
 {
-    let n = words::index(node);
-    if work[n + NODE_KIND] == kind {
-        if work[n + NODE_ID] == id {
-            return store::at_least_one(store::like(work, work[n + NODE_FIRST], kind, id));
-        }
-        return 1;
+    if store::same_type(work, node, kind, id) {
+        return store::at_least_one(store::like(work, word_at(work, node, NODE_FIRST), kind, id));
     }
     1
 }
@@ -149,10 +145,7 @@ fn is_one(work: &[u32], node: u32, kind: u32, id: u32, start: u32, length: u32) 
     if word_at(work, node, NODE_NEXT) != 0 {
         return false;
     }
-    if word_at(work, node, NODE_KIND) != kind {
-        return false;
-    }
-    if word_at(work, node, NODE_ID) != id {
+    if !store::same_type(work, node, kind, id) {
         return false;
     }
     if word_at(work, node, NODE_START) != start {

@@ -17,7 +17,7 @@ abbrev μ-loop : tie.MeasureT-loop
 μ-loop work node k kind id m count₀ size₀ end₀ next₀ count size end next = k - count
 
 -- the first tree of the row
-first-at : (s : tie.Start Inv-loop μ-loop) → Sizable (now (s .args .work)) (s .args .node) (s .args .kind)
+first-at : (s : tie.Start Inv-loop μ-loop) → Sizable (now (s .args .work)) (s .args .node) (s .args .kind) (s .args .id)
 first-at s = row-sizable (s .pre .0) (s .pre .1)
 
 -- the next tree, where one is left
@@ -28,7 +28,7 @@ module _ (i : tie.In-loop Inv-loop μ-loop) where
   abbrev s₁ : tie.Start Inv-loop μ-loop
   s₁ = a₁ .before .before .before .before .before .before .before
 
-  next-at : Sizable (now (s₁ .args .work)) (a₁ .loop .next) (s₁ .args .kind)
+  next-at : Sizable (now (s₁ .args .work)) (a₁ .loop .next) (s₁ .args .kind) (s₁ .args .id)
   next-at = let p = s₁ .pre .0 in growing-sizable (s₁ .args .m) p (a₁ .loop .inv p .2) (i .loop-test .taken)
 
 balanced-node-size-requires : tie.Need-balanced-node-size-requires Inv-loop μ-loop

@@ -1,6 +1,6 @@
--- `balance_core::is_one` meets its contract: six tests of a node's words. Assumes nothing.
-use Rattle.balance_core.proofs.Joins.{alone-none, alone-next, alone-kind, alone-id, alone-start, alone-length, alone-yes}
-use native.Mathlib.Nat.{add-zero}
+-- `balance_core::is_one` meets its contract: five tests of a node's words. Assumes nothing.
+use Rattle.balance_core.proofs.Joins.{alone-none, alone-next, alone-type, alone-start, alone-length, alone-yes}
+use borrow.Author.Tests.{not-true, not-false}
 use native.Mathlib.Omega.{arith}
 use denote.Ref.{now}
 use Rattle.balance_core.proofs.is_one.Statement.{statement}
@@ -20,79 +20,60 @@ returns-2 c =
     alone-next (now (a .work)) (a .node) (a .kind) (a .id) (a .start) (a .length)
     (live .if1 .left) (next-read .word-at .ensures) (c .if2 .taken)
 
-word-at-requires-2 : tie.Need-word-at-requires-2
-word-at-requires-2 c κs = let live = c .before .before in (live .before .before .pre (live .if1 .left), omega arith)
+same-type-requires : tie.Need-same-type-requires
+same-type-requires c κs = let live = c .before .before in live .before .before .pre (live .if1 .left)
 
 returns-3 : tie.Need-returns-3
 returns-3 c =
-    let kind-read = c .before in
-    let next-read = kind-read .before .before in
+    let compared = c .before in
+    let next-read = compared .before .before in
     let live = next-read .before in
     let a = live .before .before .args in
-    alone-kind (now (a .work)) (a .node) (a .kind) (a .id) (a .start) (a .length)
-    (live .if1 .left) (next-read .word-at .ensures) (kind-read .before .if2 .left) (simp add-zero at (kind-read .word-at2 .ensures))
-    (c .if3 .taken)
+    alone-type (now (a .work)) (a .node) (a .kind) (a .id) (a .start) (a .length)
+    (live .if1 .left) (next-read .word-at .ensures) (compared .before .if2 .left) (compared .same-type .ensures) (not-true _ (c .if3 .taken))
 
-word-at-requires-3 : tie.Need-word-at-requires-3
-word-at-requires-3 c κs = let live = c .before .before .before .before in (live .before .before .pre (live .if1 .left), omega arith)
+word-at-requires-2 : tie.Need-word-at-requires-2
+word-at-requires-2 c κs = let live = c .before .before .before .before in (live .before .before .pre (live .if1 .left), omega arith)
 
 returns-4 : tie.Need-returns-4
 returns-4 c =
-    let id-read = c .before in
-    let kind-read = id-read .before .before in
-    let next-read = kind-read .before .before in
-    let live = next-read .before in
-    let a = live .before .before .args in
-    alone-id (now (a .work)) (a .node) (a .kind) (a .id) (a .start) (a .length)
-    (live .if1 .left) (next-read .word-at .ensures) (kind-read .before .if2 .left) (simp add-zero at (kind-read .word-at2 .ensures))
-    (id-read .before .if3 .left) (id-read .word-at3 .ensures) (c .if4 .taken)
-
-word-at-requires-4 : tie.Need-word-at-requires-4
-word-at-requires-4 c κs = let live = c .before .before .before .before .before .before in (live .before .before .pre (live .if1 .left), omega arith)
-
-returns-5 : tie.Need-returns-5
-returns-5 c =
     let start-read = c .before in
-    let id-read = start-read .before .before in
-    let kind-read = id-read .before .before in
-    let next-read = kind-read .before .before in
+    let compared = start-read .before .before in
+    let next-read = compared .before .before in
     let live = next-read .before in
     let a = live .before .before .args in
     alone-start (now (a .work)) (a .node) (a .kind) (a .id) (a .start) (a .length)
-    (live .if1 .left) (next-read .word-at .ensures) (kind-read .before .if2 .left) (simp add-zero at (kind-read .word-at2 .ensures))
-    (id-read .before .if3 .left) (id-read .word-at3 .ensures) (start-read .before .if4 .left) (start-read .word-at4 .ensures)
-    (c .if5 .taken)
+    (live .if1 .left) (next-read .word-at .ensures) (compared .before .if2 .left) (compared .same-type .ensures)
+    (not-false _ (start-read .before .if3 .left)) (start-read .word-at2 .ensures) (c .if4 .taken)
 
-word-at-requires-5 : tie.Need-word-at-requires-5
-word-at-requires-5 c κs = let live = c .before .before .before .before .before .before .before .before in (live .before .before .pre (live .if1 .left), omega arith)
+word-at-requires-3 : tie.Need-word-at-requires-3
+word-at-requires-3 c κs = let live = c .before .before .before .before .before .before in (live .before .before .pre (live .if1 .left), omega arith)
+
+returns-5 : tie.Need-returns-5
+returns-5 c =
+    let length-read = c .before in
+    let start-read = length-read .before .before in
+    let compared = start-read .before .before in
+    let next-read = compared .before .before in
+    let live = next-read .before in
+    let a = live .before .before .args in
+    alone-length (now (a .work)) (a .node) (a .kind) (a .id) (a .start) (a .length)
+    (live .if1 .left) (next-read .word-at .ensures) (compared .before .if2 .left) (compared .same-type .ensures)
+    (not-false _ (start-read .before .if3 .left)) (start-read .word-at2 .ensures) (length-read .before .if4 .left) (length-read .word-at3 .ensures)
+    (c .if5 .taken)
 
 returns-6 : tie.Need-returns-6
 returns-6 c =
     let length-read = c .before in
     let start-read = length-read .before .before in
-    let id-read = start-read .before .before in
-    let kind-read = id-read .before .before in
-    let next-read = kind-read .before .before in
-    let live = next-read .before in
-    let a = live .before .before .args in
-    alone-length (now (a .work)) (a .node) (a .kind) (a .id) (a .start) (a .length)
-    (live .if1 .left) (next-read .word-at .ensures) (kind-read .before .if2 .left) (simp add-zero at (kind-read .word-at2 .ensures))
-    (id-read .before .if3 .left) (id-read .word-at3 .ensures) (start-read .before .if4 .left) (start-read .word-at4 .ensures)
-    (length-read .before .if5 .left) (length-read .word-at5 .ensures) (c .if6 .taken)
-
-returns-7 : tie.Need-returns-7
-returns-7 c =
-    let length-read = c .before in
-    let start-read = length-read .before .before in
-    let id-read = start-read .before .before in
-    let kind-read = id-read .before .before in
-    let next-read = kind-read .before .before in
+    let compared = start-read .before .before in
+    let next-read = compared .before .before in
     let live = next-read .before in
     let a = live .before .before .args in
     alone-yes (now (a .work)) (a .node) (a .kind) (a .id) (a .start) (a .length)
-    (live .if1 .left) (next-read .word-at .ensures) (kind-read .before .if2 .left) (simp add-zero at (kind-read .word-at2 .ensures))
-    (id-read .before .if3 .left) (id-read .word-at3 .ensures) (start-read .before .if4 .left) (start-read .word-at4 .ensures)
-    (length-read .before .if5 .left) (length-read .word-at5 .ensures) (c .if6 .left)
+    (live .if1 .left) (next-read .word-at .ensures) (compared .before .if2 .left) (compared .same-type .ensures)
+    (not-false _ (start-read .before .if3 .left)) (start-read .word-at2 .ensures) (length-read .before .if4 .left) (length-read .word-at3 .ensures)
+    (c .if5 .left)
 
 pub is-one-spec : {M : Type 1} → statement M
 is-one-spec =
@@ -101,12 +82,10 @@ is-one-spec =
     returns
     word-at-requires
     returns-2
-    word-at-requires-2
+    same-type-requires
     returns-3
-    word-at-requires-3
+    word-at-requires-2
     returns-4
-    word-at-requires-4
+    word-at-requires-3
     returns-5
-    word-at-requires-5
-    returns-6
-    returns-7)
+    returns-6)
