@@ -2,6 +2,7 @@ pub mod Staging
 pub mod Sites
 pub mod Handed
 pub mod Noting
+pub mod Typing
 pub mod Pushing
 pub mod Rebuilding
 pub mod Writing

@@ -12,7 +12,7 @@ use lib.Seq.{getD-set-same, getD-set-other}
 use Rattle.tree.specs.Cells.{cell-kind, cell-position, cell-first, cell-next}
 use Rattle.tree.specs.Trees.{Trees}
 use Rattle.store.specs.Store.{Same}
-use Rattle.store.proofs.Unique.{not-part}
+use Rattle.store.proofs.Types.{not-part}
 use Rattle.rules.specs.Calls.{handed-in}
 use Rattle.balance.specs.Steps.{bases, onwards, Given, noted, links-noted, Linked, Based}
 use Rattle.balance.proofs.Sites.{Leads, TreeAt, PartAt, Named, Reached}

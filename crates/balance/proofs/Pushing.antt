@@ -1,5 +1,6 @@
 -- The pass that adds the nodes, from the last cell back: where the links of a cell lead, nodes stand already. Assumes nothing.
 use mathlib.Core.Path.{_≡_, sym, ap, subst, _∙_}
+use mathlib.Core.Bool.{Bool}
 use mathlib.Core.List.{List}
 use mathlib.Core.Logic.{inl, inr, ⊎-elim}
 use Prim.Native.Nat.{ℕ, _+_, _-_, _*_, _≤_, _<_}
@@ -11,12 +12,13 @@ use Rattle.tree.specs.Cells.{cell-kind, cell-id, cell-position, cell-length, ce
 use Rattle.tree.specs.Trees.{Trees, nil}
 use Rattle.store.specs.Store.{Holds, Staged, Same, Readable, PushedTree, PushedPart}
 use Rattle.store.proofs.Frame.{same-less, staged-frame, frame}
-use Rattle.store.proofs.Unique.{not-part}
+use Rattle.store.proofs.Types.{not-part}
 use Rattle.rules.specs.Calls.{handed-in}
-use Rattle.balance.specs.Steps.{bases, onwards, Given, address, Based, Building}
+use Rattle.balance.specs.Steps.{bases, onwards, Given, kind-stored, id-stored, address, Based, Building}
 use Rattle.balance.proofs.Sites.{Leads, TreeAt, PartAt, Site}
 use Rattle.balance.proofs.Handed.{Handed, handed}
 use Rattle.balance.proofs.Noting.{leads-in}
+use Rattle.balance.proofs.Typing.{kind-as, id-as}
 
 pub address-none : (high x : ℕ) → x ≡ 0 → address high x ≡ 0
 unfolding address
@@ -26,7 +28,7 @@ pub address-some : (high x : ℕ) → (x ≡ 0 → ⊥) → address high x ≡ h
 unfolding address
 address-some high x e = rw (ne-eqb x 0 e)
 
-module _ (held cs ws : List ℕ) (n high low i : ℕ) (b : Building held cs ws n high low i) where
+module _ (f : Bool) (held cs ws : List ℕ) (n high low i : ℕ) (b : Building f held cs ws n high low i) where
   abbrev bs : List ℕ
   bs = bases 0 (handed-in cs ws)
 
@@ -37,14 +39,14 @@ module _ (held cs ws : List ℕ) (n high low i : ℕ) (b : Building held cs ws n
   h = handed cs ws n (b .given)
 
   -- the trees that a link of a cell before leads to
-  pub link-held : (k q : ℕ) (ts : Trees) (x : ℕ) → i ≤ k + 1 → Leads cs ws bs us n k q ts x → Holds held n (high - i * 10) low (address high x) ts
-  link-held k q ts x l (inl e) = subst (Holds held n (high - i * 10) low (address high x)) (sym (e .0)) (address-none high x (e .1))
+  pub link-held : (k q : ℕ) (ts : Trees) (x : ℕ) → i ≤ k + 1 → Leads cs ws bs us n k q ts x → Holds f held n (high - i * 10) low (address high x) ts
+  link-held k q ts x l (inl e) = subst (Holds f held n (high - i * 10) low (address high x)) (sym (e .0)) (address-none high x (e .1))
   link-held k q ts x l (inr e) =
       let y : ℕ = e .0 in
       let a : address high x ≡ high - (y + 1) * 10 = address-some high x (λ o. omega (arith, e .1)) ∙ omega (arith, e .1) in
-      rw a (subst (Holds held n (high - i * 10) low (high - (y + 1) * 10)) (e .2 .trees-at) (b .built y (omega (arith, e .2 .later)) (e .2 .within)))
+      rw a (subst (Holds f held n (high - i * 10) low (high - (y + 1) * 10)) (e .2 .trees-at) (b .built y (omega (arith, e .2 .later)) (e .2 .within)))
 
-module _ (held cs ws : List ℕ) (n high low i : ℕ) (l : i < n) (b : Building held cs ws n high low (i + 1)) where
+module _ (f : Bool) (held cs ws : List ℕ) (n high low i : ℕ) (l : i < n) (b : Building f held cs ws n high low (i + 1)) where
   abbrev bs₁ : List ℕ
   bs₁ = bases 0 (handed-in cs ws)
 
@@ -95,7 +97,7 @@ module _ (held cs ws : List ℕ) (n high low i : ℕ) (l : i < n) (b : Building 
     same : Same held held′ n (high - (i + 1) * 10) low
     same = same-less held held′ 0 top (top + 10) n (high - (i + 1) * 10) low (omega arith) (omega arith) (omega (arith, b .high-is, b .under)) s
 
-    built-more : Holds held′ n (top + 10) low r (getD us₁ i nil) → Building held′ cs ws n high low i
+    built-more : Holds f held′ n (top + 10) low r (getD us₁ i nil) → Building f held′ cs ws n high low i
     built-more new = record {
       given = b .given;
       high-is = b .high-is;
@@ -103,17 +105,17 @@ module _ (held cs ws : List ℕ) (n high low i : ℕ) (l : i < n) (b : Building 
       inside = omega (arith, b .inside, s .size);
       fits = b .fits;
       based = λ k m. s .below k (omega arith) (omega (arith, b .high-is)) ∙ b .based k m;
-      staged = staged-frame held held′ n (high - (i + 1) * 10) low (high - (i + 1) * 10) low (omega arith) (omega arith) same low ws (b .staged);
+      staged = staged-frame f held held′ n (high - (i + 1) * 10) low (high - (i + 1) * 10) low (omega arith) (omega arith) same low ws (b .staged);
       built = λ k m o. go k m o (ℕ-discrete i k);
     }
       where
-        go : (k : ℕ) → i ≤ k → k < n → Dec (i ≡ k) → Holds held′ n (high - i * 10) low (high - (k + 1) * 10) (getD us₁ k nil)
+        go : (k : ℕ) → i ≤ k → k < n → Dec (i ≡ k) → Holds f held′ n (high - i * 10) low (high - (k + 1) * 10) (getD us₁ k nil)
         go k m o (yes e) =
             let a : high - i * 10 ≡ top + 10 = omega (arith, b .high-is) in
             let c : high - (k + 1) * 10 ≡ r = omega (arith, b .high-is) in
-            rw (a, c) (subst (λ (j : ℕ). Holds held′ n (top + 10) low r (getD us₁ j nil)) e new)
+            rw (a, c) (subst (λ (j : ℕ). Holds f held′ n (top + 10) low r (getD us₁ j nil)) e new)
         go k m o (no e) =
-            frame held held′ n (high - (i + 1) * 10) low (high - i * 10) low (omega arith) (omega arith) same (high - (k + 1) * 10) (getD us₁ k nil) (b .built k (omega arith) o)
+            frame f held held′ n (high - (i + 1) * 10) low (high - i * 10) low (omega arith) (omega arith) same (high - (k + 1) * 10) (getD us₁ k nil) (b .built k (omega arith) o)
 
   module _ (held′ : List ℕ) (top start r : ℕ) (top-is : top ≡ high - (i + 1) * 10) (start-is : start ≡ getD held i 0 + cell-position cs i)
       (next : ℕ) (next-is : next ≡ address high (cell-next cs i)) where
@@ -121,11 +123,11 @@ module _ (held cs ws : List ℕ) (n high low i : ℕ) (l : i < n) (b : Building 
     below = sym top-is
 
     pub pushed-part : (two : cell-kind cs i ≡ 2) (from : ℕ) → from ≡ low + cell-first cs i
-        → PushedPart held held′ top start (cell-length cs i) from (cell-count cs i) next r → Building held′ cs ws n high low i
+        → PushedPart held held′ top start (cell-length cs i) from (cell-count cs i) next r → Building f held′ cs ws n high low i
     pushed-part two from from-is p =
         let t = part-site two in
         let starts : start ≡ t .start = omega (arith, start-is, b .based i l, t .start-is) in
-        let later : Holds held n top low next (t .rest) = rw (next-is, top-is) (link-held held cs ws n high low (i + 1) b i (getD bs₁ i 0) (t .rest) (cell-next cs i) (omega arith) (t .next-is)) in
+        let later : Holds f held n top low next (t .rest) = rw (next-is, top-is) (link-held f held cs ws n high low (i + 1) b i (getD bs₁ i 0) (t .rest) (cell-next cs i) (omega arith) (t .next-is)) in
         let staged : Staged held low from (t .held) = record {
           above = omega (arith, from-is);
           within = omega (arith, from-is, t .inside, b .staged .within);
@@ -134,36 +136,36 @@ module _ (held cs ws : List ℕ) (n high low i : ℕ) (l : i < n) (b : Building 
               ap (λ (j : ℕ). getD held j 0) z ∙ b .staged .same (cell-first cs i + k) (omega (arith, t .inside)) ∙ t .words-at k m;
           narrow = λ k m. omega (arith, t .words-at k m, b .staged .narrow (cell-first cs i + k) (omega (arith, t .inside)));
         } in
-        let new = p .holds n low (t .held) (t .rest) (omega (arith, l)) (omega (arith, top-is, b .high-is)) (omega (arith, top-is, b .high-is, b .under)) (t .count-is) staged later in
+        let new = p .holds f n low (t .held) (t .rest) (omega (arith, l)) (omega (arith, top-is, b .high-is)) (omega (arith, top-is, b .high-is, b .under)) (t .count-is) staged later in
         built-more held′ top r top-is (p .kept) (p .address) (rw (t .here, ← starts, ← (t .len-is)) new)
 
     pub pushed-tree : (other : cell-kind cs i ≡ 2 → ⊥) (first : ℕ) → first ≡ address high (cell-first cs i)
-        → PushedTree held held′ top (cell-kind cs i) (cell-id cs i) start (cell-length cs i) first next r → Building held′ cs ws n high low i
+        → PushedTree held held′ top (kind-stored f (cell-kind cs i) (cell-id cs i)) (id-stored f (cell-kind cs i) (cell-id cs i)) start (cell-length cs i) first next r → Building f held′ cs ws n high low i
     pushed-tree other first first-is p =
         let t = tree-site other in
         let starts : start ≡ t .start = omega (arith, start-is, b .based i l, t .start-is) in
-        let later : Holds held n top low next (t .rest) = rw (next-is, top-is) (link-held held cs ws n high low (i + 1) b i (getD bs₁ i 0) (t .rest) (cell-next cs i) (omega arith) (t .next-is)) in
-        let inner : Holds held n top low first (t .kids) = rw (first-is, top-is) (link-held held cs ws n high low (i + 1) b i (t .start) (t .kids) (cell-first cs i) (omega arith) (t .first-is)) in
-        let new = p .holds n low (t .type) (t .kids) (t .rest) (omega (arith, l)) (omega (arith, top-is, b .high-is)) (omega (arith, top-is, b .high-is, b .under)) (t .kind-is) (t .id-is) inner later in
+        let later : Holds f held n top low next (t .rest) = rw (next-is, top-is) (link-held f held cs ws n high low (i + 1) b i (getD bs₁ i 0) (t .rest) (cell-next cs i) (omega arith) (t .next-is)) in
+        let inner : Holds f held n top low first (t .kids) = rw (first-is, top-is) (link-held f held cs ws n high low (i + 1) b i (t .start) (t .kids) (cell-first cs i) (omega arith) (t .first-is)) in
+        let new = p .holds f n low (t .type) (t .kids) (t .rest) (omega (arith, l)) (omega (arith, top-is, b .high-is)) (omega (arith, top-is, b .high-is, b .under)) (kind-as f (t .type) (t .kind-is) (t .id-is)) (id-as f (t .type) (t .kind-is) (t .id-is)) inner later in
         built-more held′ top r top-is (p .kept) (p .address) (rw (t .here, ← starts, ← (t .len-is)) new)
 
 -- before the first node
-pub building-start : (held₁ held₂ cs ws : List ℕ) (n high low : ℕ) → Given cs ws n → Staged held₁ low low ws → Based held₂ n (handed-in cs ws) → Same held₁ held₂ 0 0 n
-    → high ≡ n * 11 → high ≤ low → low ≤ length held₁ → low + length ws ≤ 4294967295 → Building held₂ cs ws n high low n
-building-start held₁ held₂ cs ws n high low g w b s e u m f = record {
+pub building-start : (f : Bool) (held₁ held₂ cs ws : List ℕ) (n high low : ℕ) → Given cs ws n → Staged held₁ low low ws → Based held₂ n (handed-in cs ws) → Same held₁ held₂ 0 0 n
+    → high ≡ n * 11 → high ≤ low → low ≤ length held₁ → low + length ws ≤ 4294967295 → Building f held₂ cs ws n high low n
+building-start f held₁ held₂ cs ws n high low g w b s e u m fits = record {
   given = g;
   high-is = e;
   under = u;
   inside = omega (arith, s .size);
-  fits = f;
+  fits = fits;
   based = b;
-  staged = staged-frame held₁ held₂ 0 0 low 0 low (omega arith) (omega arith) (same-less held₁ held₂ 0 0 n 0 0 low (omega arith) (omega arith) (omega arith) s) low ws w;
+  staged = staged-frame f held₁ held₂ 0 0 low 0 low (omega arith) (omega arith) (same-less held₁ held₂ 0 0 n 0 0 low (omega arith) (omega arith) (omega arith) s) low ws w;
   built = λ k l o. absurd (omega arith);
 }
 
 -- one cell more is to be added, or none is left
-pub building-one-less : (held cs ws : List ℕ) (n high low i : ℕ) → 0 < i → Building held cs ws n high low i → Building held cs ws n high low (i - 1 + 1)
-building-one-less held cs ws n high low i l b = let z : i - 1 + 1 ≡ i = omega arith in rw z b
+pub building-one-less : (f : Bool) (held cs ws : List ℕ) (n high low i : ℕ) → 0 < i → Building f held cs ws n high low i → Building f held cs ws n high low (i - 1 + 1)
+building-one-less f held cs ws n high low i l b = let z : i - 1 + 1 ≡ i = omega arith in rw z b
 
-pub building-none-left : (held cs ws : List ℕ) (n high low i : ℕ) → i ≤ 0 → Building held cs ws n high low i → Building held cs ws n high low 0
-building-none-left held cs ws n high low i l b = let z : i ≡ 0 = omega arith in subst (λ (k : ℕ). Building held cs ws n high low k) z b
+pub building-none-left : (f : Bool) (held cs ws : List ℕ) (n high low i : ℕ) → i ≤ 0 → Building f held cs ws n high low i → Building f held cs ws n high low 0
+building-none-left f held cs ws n high low i l b = let z : i ≡ 0 = omega arith in subst (λ (k : ℕ). Building f held cs ws n high low k) z b

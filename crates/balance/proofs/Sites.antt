@@ -13,7 +13,7 @@ use Rattle.tree.specs.Trees.{Trees, nil, tree, part, nodes, siblings}
 use Rattle.tree.specs.Cells.{packed, kind, id-word, cells, relative, unless-none, cell-width, cell-kind, cell-id, cell-position, cell-length, cell-first, cell-count, cell-next}
 use Rattle.tree.proofs.CellLaws.{length-cells}
 use Rattle.store.proofs.Flow.{relative-nodes, Later, more, flow, flow-tree, flow-part}
-use Rattle.store.proofs.Unique.{not-part}
+use Rattle.store.proofs.Types.{not-part}
 use Rattle.balance.specs.Steps.{bases, onwards}
 
 -- a list of which the words from c on are known

@@ -14,7 +14,7 @@ use Rattle.balance.specs.Steps.{Standing, settled-tree}
 
 module _ (held : List ℕ) (top root : ℕ) (ts : Trees) (s : Standing held top root ts) (out words : List ℕ) (n : ℕ) (n-told : n ≡ told held root 6) where
   n-is : n ≡ nodes ts
-  n-is = n-told ∙ tells-cells held (s .base) top (s .low) root ts (s .holds) ∙ omega (arith, s .few)
+  n-is = n-told ∙ tells-cells (s .none-first) held (s .base) top (s .low) root ts (s .holds) ∙ omega (arith, s .few)
 
   pub refuses-cells : length out / cell-width < n → record { outcome = refused 12 0; outputs = out ∷ words ∷ [] } ≡ settled-tree ts out words
   unfolding settled-tree
@@ -22,7 +22,7 @@ module _ (held : List ℕ) (top root : ℕ) (ts : Trees) (s : Standing held top 
 
   module _ (fits : n ≤ length out / cell-width) (m : ℕ) (m-told : m ≡ told held root 7) where
     m-is : m ≡ length (packed ts)
-    m-is = m-told ∙ tells-words held (s .base) top (s .low) root ts (s .holds) ∙ omega (arith, s .narrow)
+    m-is = m-told ∙ tells-words (s .none-first) held (s .base) top (s .low) root ts (s .holds) ∙ omega (arith, s .narrow)
 
     cells-fit : cell-width * nodes ts ≤ length out
     cells-fit = omega (arith, n-is)
@@ -34,6 +34,7 @@ module _ (held : List ℕ) (top root : ℕ) (ts : Trees) (s : Standing held top 
     module _ (enough-words : m ≤ length words) where
       pub writable : Writable held top root (length out) (length words)
       writable = record {
+        none-first = s .none-first;
         base = s .base;
         low = s .low;
         trees = ts;
@@ -50,8 +51,8 @@ module _ (held : List ℕ) (top root : ℕ) (ts : Trees) (s : Standing held top 
       unfolding settled-tree
       writes out′ words′ w =
           rw (
-            w .cells-out (s .base) (s .low) ts (s .holds),
-            w .words-out (s .base) (s .low) ts (s .holds),
+            w .cells-out (s .none-first) (s .base) (s .low) ts (s .holds),
+            w .words-out (s .none-first) (s .base) (s .low) ts (s .holds),
             n-is,
             m-is,
             enough (nodes ts) (length (packed ts)) (length out) (length words) (omega (arith, s .few)) cells-fit (omega (arith, m-is)),

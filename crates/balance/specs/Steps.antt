@@ -1,6 +1,6 @@
 -- What the steps of balance promise each other: for the contracts of private functions only.
 use mathlib.Core.Path.{_≡_}
-use mathlib.Core.Bool.{true, cond}
+use mathlib.Core.Bool.{Bool, true, cond}
 use mathlib.Core.List.{List, [], _∷_, _++_}
 use mathlib.Core.Option.{none}
 use Prim.Native.Nat.{ℕ, _+_, _-_, _*_, _/_, _≤_, _<_}
@@ -55,12 +55,20 @@ pub record Linked (cs held : List ℕ) (i : ℕ) : Type 0 where
 abbrev pub Based : (held : List ℕ) (n : ℕ) → Trees → Type 0
 Based held n ts = (k : ℕ) → k < n → getD held k 0 ≡ getD (bases 0 ts) k 0
 
+-- The kind and id by which the store has the type of a cell: where place 0 of the set is none, kind 1 with id 0 has the kind of none
+-- and the id 1.
+abbrev pub kind-stored : (none-first : Bool) (kind id : ℕ) → ℕ
+kind-stored f k i = cond f (cond (eqb i 0) 3 k) k
+
+abbrev pub id-stored : (none-first : Bool) (kind id : ℕ) → ℕ
+id-stored f k i = cond f (cond (eqb k 1) (cond (eqb i 0) 1 i) i) i
+
 -- Where the node of cell x stands, counted from 1, if nodes go up to `high`; 0 for none.
 unfoldable pub address : (high x : ℕ) → ℕ
 address high x = cond (eqb x 0) 0 (high - x * node-width)
 
--- The cells from cell i on, counted from 0, stand in the store, in front of the packed words.
-pub record Building (held cs ws : List ℕ) (n high low i : ℕ) : Type 0 where
+-- The cells from cell i on, counted from 0, stand in the store, in front of the packed words; `none-first`: is place 0 of the set none?
+pub record Building (none-first : Bool) (held cs ws : List ℕ) (n high low i : ℕ) : Type 0 where
   pub given : Given cs ws n
   pub high-is : high ≡ n * 11
   pub under : high ≤ low
@@ -68,13 +76,14 @@ pub record Building (held cs ws : List ℕ) (n high low i : ℕ) : Type 0 where
   pub fits : low + length ws ≤ 4294967295
   pub based : Based held n (handed-in cs ws)
   pub staged : Staged held low low ws
-  pub built : (k : ℕ) → i ≤ k → k < n → Holds held n (high - i * node-width) low (high - (k + 1) * node-width) (getD (onwards (handed-in cs ws)) k nil)
+  pub built : (k : ℕ) → i ≤ k → k < n → Holds none-first held n (high - i * node-width) low (high - (k + 1) * node-width) (getD (onwards (handed-in cs ws)) k nil)
 
 -- a tree in the store, with the space to write it out
 pub record Standing (held : List ℕ) (top root : ℕ) (ts : Trees) : Type 0 where
+  pub none-first : Bool
   pub base : ℕ
   pub low : ℕ
-  pub holds : Holds held base top low root ts
+  pub holds : Holds none-first held base top low root ts
   pub free : top + 2 * nodes ts ≤ low
   pub inside : low ≤ length held
   pub few : nodes ts < 4294967295

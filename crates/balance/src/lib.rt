@@ -8,14 +8,16 @@ ghost use lib.ListN.{length};
 ghost use Rattle.tree.specs.Cells.{cell-width};
 ghost use Rattle.tree.specs.Trees.{Trees};
 ghost use Rattle.tree.specs.Balance.{balanced};
-ghost use Rattle.store.specs.Store.{Staged, Same, node-width};
+ghost use Rattle.store.specs.Store.{Staged, Same, Readable, PushedTree, node-width};
 ghost use Rattle.rules.specs.Calls.{handed-in, balance-call};
 ghost use Rattle.balance.specs.Answer.{balanced-outcome};
-ghost use Rattle.balance.specs.Steps.{Given, noted, Linked, links-noted, Based, address, Building, Standing, settled-tree, Lent};
+ghost use Rattle.balance.specs.Steps.{Given, noted, Linked, links-noted, Based, kind-stored, id-stored, address, Building, Standing, settled-tree, Lent};
 use balance_core::Made;
+use store::FIRST_OF_SET;
 use store::NODE_CELLS;
 use store::NODE_WIDTH;
 use store::NODE_WORDS;
+use store::NONE;
 use tree::CELL_WIDTH;
 use tree::COUNT;
 use tree::FIRST;
@@ -97,11 +99,62 @@ fn node_of(high: u32, x: u32) -> u32
     high - x * NODE_WIDTH
 }
 
+// The kind by which the store has the type of a cell: where place 0 of the set is none, id 0 has that of none.
+fn stored_kind(none_first: bool, kind: u32, id: u32) -> u32
+    ensures { λ r. ⌜ r ≡ kind-stored «none_first» kind id ⌝ }
+{
+    if !none_first {
+        return kind;
+    }
+    if id != 0 {
+        return kind;
+    }
+    NONE
+}
+
+// The id: kind 1 with id 0 stays apart there from kind 3.
+fn stored_id(none_first: bool, kind: u32, id: u32) -> u32
+    ensures { λ r. ⌜ r ≡ id-stored «none_first» kind id ⌝ }
+{
+    if !none_first {
+        return id;
+    }
+    if kind != 1 {
+        return id;
+    }
+    if id != 0 {
+        return id;
+    }
+    FIRST_OF_SET
+}
+
+// A tree of a cell's kind and id over the list `kids`, before the list `next`.
+fn push_typed(
+    none_first: bool,
+    work: &mut [u32],
+    top: u32,
+    kind: u32,
+    id: u32,
+    start: u32,
+    length: u32,
+    kids: u32,
+    next: u32,
+) -> u32
+    requires { ⌜ top + node-width ≤ lib.ListN.length (now work) ⌝ }
+    requires { ⌜ Readable (now work) kids ⌝ }
+    requires { ⌜ Readable (now work) next ⌝ }
+    ensures { λ r. ⌜ PushedTree (now (work .entry)) (now (work .exit)) top (kind-stored «none_first» kind id) (id-stored «none_first» kind id) start length kids next r ⌝ }
+{
+    let own_kind = stored_kind(none_first, kind, id);
+    let own_id = stored_id(none_first, kind, id);
+    store::push_tree(work, top, own_kind, own_id, start, length, kids, next)
+}
+
 // Adds the node of cell i before those of the cells after it.
-fn push_cell(cells: &[u32], i: usize, high: u32, low: u32, work: &mut [u32])
+fn push_cell(none_first: bool, cells: &[u32], i: usize, high: u32, low: u32, work: &mut [u32])
     requires { ⌜ i < length (now cells) / cell-width ⌝ }
-    requires { ⌜ ((ws : List ℕ) × Building (now work) (now cells) ws (length (now cells) / cell-width) high low (i + 1)) ⌝ }
-    ensures { λ _. ⌜ ((ws : List ℕ) → Building (now (work .entry)) (now (cells .entry)) ws (length (now (cells .entry)) / cell-width) high low (i + 1) → Building (now (work .exit)) (now (cells .entry)) ws (length (now (cells .entry)) / cell-width) high low i) ⌝ }
+    requires { ⌜ ((ws : List ℕ) × Building «none_first» (now work) (now cells) ws (length (now cells) / cell-width) high low (i + 1)) ⌝ }
+    ensures { λ _. ⌜ ((ws : List ℕ) → Building «none_first» (now (work .entry)) (now (cells .entry)) ws (length (now (cells .entry)) / cell-width) high low (i + 1) → Building «none_first» (now (work .exit)) (now (cells .entry)) ws (length (now (cells .entry)) / cell-width) high low i) ⌝ }
 {
     let top = high - (i as u32 + 1) * NODE_WIDTH;
     let start = work[i] + cells[i * CELL_WIDTH + POSITION];
@@ -119,7 +172,8 @@ fn push_cell(cells: &[u32], i: usize, high: u32, low: u32, work: &mut [u32])
         return;
     }
     let first = node_of(high, cells[i * CELL_WIDTH + FIRST]);
-    store::push_tree(
+    push_typed(
+        none_first,
         work,
         top,
         cells[i * CELL_WIDTH + KIND],
@@ -132,22 +186,22 @@ fn push_cell(cells: &[u32], i: usize, high: u32, low: u32, work: &mut [u32])
 }
 
 // Adds the nodes of all cells.
-fn push_cells(cells: &[u32], high: u32, low: u32, work: &mut [u32])
-    requires { ⌜ ((ws : List ℕ) × Building (now work) (now cells) ws (length (now cells) / cell-width) high low (length (now cells) / cell-width)) ⌝ }
-    ensures { λ _. ⌜ ((ws : List ℕ) → Building (now (work .entry)) (now (cells .entry)) ws (length (now (cells .entry)) / cell-width) high low (length (now (cells .entry)) / cell-width) → Building (now (work .exit)) (now (cells .entry)) ws (length (now (cells .entry)) / cell-width) high low 0) ⌝ }
+fn push_cells(none_first: bool, cells: &[u32], high: u32, low: u32, work: &mut [u32])
+    requires { ⌜ ((ws : List ℕ) × Building «none_first» (now work) (now cells) ws (length (now cells) / cell-width) high low (length (now cells) / cell-width)) ⌝ }
+    ensures { λ _. ⌜ ((ws : List ℕ) → Building «none_first» (now (work .entry)) (now (cells .entry)) ws (length (now (cells .entry)) / cell-width) high low (length (now (cells .entry)) / cell-width) → Building «none_first» (now (work .exit)) (now (cells .entry)) ws (length (now (cells .entry)) / cell-width) high low 0) ⌝ }
 {
     let mut i = cells.len() / CELL_WIDTH;
     while 0 < i {
         i -= 1;
-        push_cell(cells, i, high, low, work);
+        push_cell(none_first, cells, i, high, low, work);
     }
 }
 
 // The tree with its children balanced, if there are more than 8.
-fn rebuild(cells: &[u32], high: u32, low: u32, work: &mut [u32]) -> Made
-    requires { ⌜ ((ws : List ℕ) × Building (now work) (now cells) ws (length (now cells) / cell-width) high low 0) ⌝ }
+fn rebuild(none_first: bool, cells: &[u32], high: u32, low: u32, work: &mut [u32]) -> Made
+    requires { ⌜ ((ws : List ℕ) × Building «none_first» (now work) (now cells) ws (length (now cells) / cell-width) high low 0) ⌝ }
     requires { ⌜ length (now cells) / cell-width * 35 ≤ low ⌝ }
-    ensures { λ r. ⌜ ((ws : List ℕ) → Building (now (work .entry)) (now (cells .entry)) ws (length (now (cells .entry)) / cell-width) high low 0 → Standing (now (work .exit)) (r .top) (r .node) (balanced (handed-in (now (cells .entry)) ws))) ⌝ }
+    ensures { λ r. ⌜ ((ws : List ℕ) → Building «none_first» (now (work .entry)) (now (cells .entry)) ws (length (now (cells .entry)) / cell-width) high low 0 → Standing (now (work .exit)) (r .top) (r .node) (balanced «none_first» (handed-in (now (cells .entry)) ws))) ⌝ }
 {
     let count = cells[COUNT];
     if count <= 8 {
@@ -157,14 +211,14 @@ fn rebuild(cells: &[u32], high: u32, low: u32, work: &mut [u32]) -> Made
         };
     }
     let kids = node_of(high, cells[FIRST]);
-    let size = balance_core::row_size(&*work, kids, count, 3, 0);
+    let size = balance_core::row_size(&*work, kids, count, NONE, 0);
     let own = balance_core::Parent {
-        kind: 1,
-        id: cells[ID],
+        kind: stored_kind(none_first, 1, cells[ID]),
+        id: stored_id(none_first, 1, cells[ID]),
         start: 0,
         length: cells[LENGTH],
     };
-    balance_core::balance_range(work, high, low, kids, count, size, 3, 0, own, 0)
+    balance_core::balance_range(work, high, low, kids, count, size, NONE, 0, own, 0)
 }
 
 // What the call answers.
@@ -195,6 +249,7 @@ fn write_out(work: &mut [u32], top: u32, root: u32, out: &mut [u32], packed: &mu
 // Balance of accepted cells. Of the work slice the first 96 × items + 96 words are used: at their end the packed words, in front one
 // word and a node of ten words for each cell, between them the nodes that balancing adds.
 fn balance_accepted(
+    none_first: bool,
     cells: &[u32],
     words: &[u16],
     work: &mut [u32],
@@ -202,31 +257,33 @@ fn balance_accepted(
     packed: &mut [u16],
 ) -> Balanced
     requires { ⌜ Lent (now cells) (now words) (length (now work)) ⌝ }
-    ensures { λ r. ⌜ record { outcome = balanced-outcome r; outputs = now (out .exit) ∷ now (packed .exit) ∷ [] } ≡ settled-tree (balanced (handed-in (now (cells .entry)) (now (words .entry)))) (now (out .entry)) (now (packed .entry)) ⌝ }
+    ensures { λ r. ⌜ record { outcome = balanced-outcome r; outputs = now (out .exit) ∷ now (packed .exit) ∷ [] } ≡ settled-tree (balanced «none_first» (handed-in (now (cells .entry)) (now (words .entry)))) (now (out .entry)) (now (packed .entry)) ⌝ }
 {
     let n = cells.len() / CELL_WIDTH;
     let end = ((n + words.len() / RECORD_WIDTH) * 96 + 96) as u32;
     let low = stage_words(words, work, end);
     note_bases(cells, work);
     let high = (n * 11) as u32;
-    push_cells(cells, high, low, work);
-    let made = rebuild(cells, high, low, work);
+    push_cells(none_first, cells, high, low, work);
+    let made = rebuild(none_first, cells, high, low, work);
     write_out(work, made.top, made.node, out, packed)
 }
 
 // The most items whose 96 × items + 96 words of work 32-bit words can name.
 const MOST_ITEMS: usize = 44739241;
 
-// Balance: 1, 11, 15, 12, 13; then the cells and words of the balanced tree.
+// Balance: 1, 11, 15, 12, 13; then the cells and words of the balanced tree. Where place 0 of the set is none, a cell of kind 1 with
+// id 0 counts as one of kind 3 wherever types are compared.
 pub fn balance(
     types: u32,
+    none_first: bool,
     cells: &[u32],
     words: &[u16],
     work: &mut [u32],
     out: &mut [u32],
     packed: &mut [u16],
 ) -> Balanced
-    ensures { λ r. ⌜ record { outcome = balanced-outcome r; outputs = now (out .exit) ∷ now (packed .exit) ∷ [] } ≡ balance-call types (now (cells .entry)) (now (words .entry)) (length (now (work .entry))) (now (out .entry)) (now (packed .entry)) ⌝ }
+    ensures { λ r. ⌜ record { outcome = balanced-outcome r; outputs = now (out .exit) ∷ now (packed .exit) ∷ [] } ≡ balance-call types «none_first» (now (cells .entry)) (now (words .entry)) (length (now (work .entry))) (now (out .entry)) (now (packed .entry)) ⌝ }
 {
     if 65536 < types {
         return Balanced::Refused(1, 0);
@@ -240,5 +297,5 @@ pub fn balance(
     if MOST_ITEMS < cells.len() / CELL_WIDTH + words.len() / RECORD_WIDTH {
         return Balanced::Refused(12, 0);
     }
-    balance_accepted(cells, words, work, out, packed)
+    balance_accepted(none_first, cells, words, work, out, packed)
 }

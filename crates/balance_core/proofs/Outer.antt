@@ -4,7 +4,7 @@ use mathlib.Core.List.{List}
 use Prim.Native.Nat.{ℕ, suc, _+_, _≤_}
 use native.Mathlib.Omega.{arith}
 use Rattle.tree.specs.Trees.{Trees, nil, _⊕_}
-use Rattle.tree.specs.Balance.{under, total, share, divide, balance}
+use Rattle.tree.specs.Balance.{in-set, total, share, divide, balance}
 use Rattle.tree.proofs.ListingLaws.{⊕-nil}
 use Rattle.store.specs.Store.{Holds}
 use Rattle.store.proofs.Frame.{same-less, frame}
@@ -62,7 +62,7 @@ module _ {w : List ℕ} {top stack node k kd i okd oi size next m : ℕ} (em : m
     join-ready p = record {
       base = p .row .base;
       low = p .row .low;
-      type = under (p .row .type .none-first) (p .own);
+      type = in-set (p .row .type .none-first) (p .own);
       ts = kids-of-row p;
       rest = p .row .rest;
       live = p .row .live;

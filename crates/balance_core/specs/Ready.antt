@@ -7,7 +7,7 @@ use Prim.Native.Nat.{ℕ, suc, _+_, _*_, _≤_, _<_}
 use lib.Dec.{eqb}
 use lib.ListN.{length}
 use Rattle.tree.specs.Trees.{Trees, _⊕_, siblings}
-use Rattle.tree.specs.Balance.{SetType, under, total, share, divide, joined, balance}
+use Rattle.tree.specs.Balance.{SetType, in-set, total, share, divide, joined, balance}
 use Rattle.store.specs.Store.{Holds, Same, typed, stored-kind, stored-id, node-width, node-start, node-length, node-next}
 use Rattle.balance_core.specs.Rows.{Ends}
 
@@ -105,8 +105,8 @@ pub record Divided (w w′ : List ℕ) (top stack node k kd i m size next rtop r
 pub record BalanceReady (w : List ℕ) (top stack node k kd i okd oi size next : ℕ) : Type 0 where
   pub own : Option ℕ
   pub row : DivideReady w top stack node k kd i (share size) size next
-  pub own-kind : okd ≡ stored-kind (under (row .type .none-first) own)
-  pub own-id : oi ≡ stored-id (under (row .type .none-first) own)
+  pub own-kind : okd ≡ stored-kind (in-set (row .type .none-first) own)
+  pub own-id : oi ≡ stored-id (in-set (row .type .none-first) own)
 
 -- the balanced tree stands before the list
 pub record Balanced (w w′ : List ℕ) (top stack node k kd i okd oi s l size next rtop rnode : ℕ) : Type 0 where
@@ -115,4 +115,4 @@ pub record Balanced (w w′ : List ℕ) (top stack node k kd i okd oi s l size n
   pub used : rtop ≤ top + 20 * size
   pub used-many : 2 ≤ k → rtop + node-width ≤ top + 20 * size
   pub holds : (p : BalanceReady w top stack node k kd i okd oi size next)
-      → Holds (p .row .type .none-first) w′ (p .row .base) rtop (p .row .low) rnode (balance (under (p .row .type .none-first) (p .own)) (p .row .type) s l (p .row .us) ⊕ p .row .rest)
+      → Holds (p .row .type .none-first) w′ (p .row .base) rtop (p .row .low) rnode (balance (in-set (p .row .type .none-first) (p .own)) (p .row .type) s l (p .row .us) ⊕ p .row .rest)

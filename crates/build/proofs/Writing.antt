@@ -1,5 +1,6 @@
 -- 12, 13, or the whole tree is written out: the counts in the first node decide. Assumes nothing.
 use mathlib.Core.Path.{_≡_, refl, sym, ap, _∙_}
+use mathlib.Core.Bool.{false}
 use mathlib.Core.List.{List, [], _∷_, append-nil}
 use mathlib.Core.Option.{some}
 use Prim.Native.Nat.{ℕ, suc, _+_, _*_, _/_, _≤_, _<_}
@@ -30,11 +31,11 @@ result-is : (S : ℕ) (t : Trees) (n m : ℕ) (out out′ words words′ ps : Li
 result-is S t n m out out′ words words′ ps a b c o v r = rw (o, v, ← a, ← b, ← c, r) refl
 
 pub kids-read : (held : List ℕ) (top kids : ℕ) → Writes held top kids → Readable held kids
-kids-read held top kids q = readable held (q .base) top (q .low) kids (q .trees) (omega (arith, q .free, q .inside)) (q .holds)
+kids-read held top kids q = readable false held (q .base) top (q .low) kids (q .trees) (omega (arith, q .free, q .inside)) (q .holds)
 
 module _ (held : List ℕ) (top kids : ℕ) (q : Writes held top kids) (id S l : ℕ) (out words : List ℕ) (n k : ℕ) (n-told : k ≡ told held kids 6) (n-more : n ≡ k + 1) where
   n-is : n ≡ suc (nodes (q .trees))
-  n-is = let e = n-told ∙ tells-cells held (q .base) top (q .low) kids (q .trees) (q .holds) in omega (arith, q .free, q .fits, n-more, e)
+  n-is = let e = n-told ∙ tells-cells false held (q .base) top (q .low) kids (q .trees) (q .holds) in omega (arith, q .free, q .fits, n-more, e)
 
   abbrev whole : Trees
   whole = tree (some id) S l (q .trees) nil
@@ -47,7 +48,7 @@ module _ (held : List ℕ) (top kids : ℕ) (q : Writes held top kids) (id S l :
 
   module _ (fits : n ≤ length out / cell-width) (m : ℕ) (m-told : m ≡ told held kids 7) where
     m-is : m ≡ length (packed (q .trees))
-    m-is = let e = m-told ∙ tells-words held (q .base) top (q .low) kids (q .trees) (q .holds) in omega (arith, q .narrow, e)
+    m-is = let e = m-told ∙ tells-words false held (q .base) top (q .low) kids (q .trees) (q .holds) in omega (arith, q .narrow, e)
 
     packed-is : length (packed whole) ≡ m
     packed-is = ap length (whole-packed id S l (q .trees)) ∙ sym m-is

@@ -1,6 +1,6 @@
 -- What the build of an accepted list asks and leaves. Nothing here is needed to read what the call promises.
 use mathlib.Core.Path.{_≡_}
-use mathlib.Core.Bool.{cond}
+use mathlib.Core.Bool.{false, cond}
 use mathlib.Core.List.{List, [], _∷_}
 use mathlib.Core.Option.{Option, some}
 use Prim.Native.Nat.{ℕ, suc, _+_, _-_, _*_, _/_, _≤_, _<_}
@@ -38,7 +38,7 @@ pub record Writes (l : List ℕ) (top kids : ℕ) : Type 0 where
   pub free : top + node-width + 2 * suc (nodes trees) ≤ low
   pub inside : low ≤ length l
   pub fits : low ≤ 4294967295
-  pub holds : Holds l base top low kids trees
+  pub holds : Holds false l base top low kids trees
   pub narrow : length (packed trees) < 4294967295
 
 -- what the outputs hold in the end, of a tree t that starts at S

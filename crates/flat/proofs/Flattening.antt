@@ -99,10 +99,10 @@ module _ {w l : List ℕ} {p lo : ℕ} {own : Option ℕ} {b top low groups loos
       room-pass = omega (arith, room)
 
       pub groups-node : Readable l′ hgroups
-      groups-node = readable l′ (q .base) htop below hgroups (t .g .groups) (omega (arith, room-pass, inside)) (t .holds .groups-at)
+      groups-node = readable false l′ (q .base) htop below hgroups (t .g .groups) (omega (arith, room-pass, inside)) (t .holds .groups-at)
 
       pub loose-node : Readable l′ hloose
-      loose-node = readable l′ (q .base) htop below hloose (t .g .loose) (omega (arith, room-pass, inside)) (t .holds .loose-at)
+      loose-node = readable false l′ (q .base) htop below hloose (t .g .loose) (omega (arith, room-pass, inside)) (t .holds .loose-at)
 
       abbrev i : ℕ
       i = getD w ((at - 1) * 4) 0
@@ -199,7 +199,7 @@ module _ {w l : List ℕ} {p lo : ℕ} {own : Option ℕ} {b top low groups loos
             sorted = left;
             holds = record {
               groups-at =
-                  frame l′ l″ (q .base) htop below rtop rlow (v .grown) (v .lower)
+                  frame false l′ l″ (q .base) htop below rtop rlow (v .grown) (v .lower)
                   (same-less l′ l″ 0 htop below (q .base) htop below (omega arith) (le-refl htop) (le-refl below) (v .kept)) hgroups (t .g .groups) (t .holds .groups-at);
               loose-at = v .holds (q .base) (t .g .loose) (q .live) (omega (arith, q .above, t .grown)) (t .holds .loose-at);
               edge-is = t .holds .edge-is;

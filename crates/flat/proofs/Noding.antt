@@ -105,7 +105,7 @@ module _ {w l : List ℕ} {p lo b top low loose : ℕ} (ready : NodeReady w l p 
           kept = same-less l l′ 0 top (top + 10) 0 top low (omega arith) (omega arith) (omega (arith, node-room)) (t .kept);
           holds = λ base ts live above h.
               rw (head-is, part-lone fi fs fe fn more count len lone counted et len-is yes-it ts, ← es, ← ei)
-              (t .holds base low (some id) nil ts live above (omega (arith, node-room)) refl refl refl h);
+              (t .holds false base low (some id) nil ts live above (omega (arith, node-room)) refl refl refl h);
           flat-is = x .flat-is;
         }
 
@@ -156,9 +156,9 @@ module _ {w l : List ℕ} {p lo b top low loose : ℕ} (ready : NodeReady w l p 
               };
               holds = λ base ts live above h.
                   let kept-here : Same l l₁ base top low = same-less l l₁ 0 from low base top low (omega arith) (omega (arith, staged-room)) (le-refl low) (st .kept) in
-                  let h₁ : Holds l₁ base top from loose ts = frame l l₁ base top low top from (le-refl top) (omega (arith, st .address)) kept-here loose ts h in
+                  let h₁ : Holds false l₁ base top from loose ts = frame false l l₁ base top low top from (le-refl top) (omega (arith, st .address)) kept-here loose ts h in
                   rw (part-of ts)
-                  (t .holds base from (flat-words start 0 held) ts live above staged-room (ew ∙ omega (arith, words-length start 0 held, x .counted)) (st .staged) h₁);
+                  (t .holds false base from (flat-words start 0 held) ts live above staged-room (ew ∙ omega (arith, words-length start 0 held, x .counted)) (st .staged) h₁);
               flat-is = x .flat-is;
             }
               where

@@ -70,7 +70,7 @@ pub record TookFlat (w l l′ : List ℕ) (p lo b top low loose to rtop rlow rlo
   pub lower : rlow ≤ low
   pub used : rtop + low ≤ rlow + top + 14 * (p - to)
   pub kept : Same l l′ 0 top low
-  pub holds : (base : ℕ) (ts : Trees) → 0 < base → base ≤ top → Holds l base top low loose ts
-      → Holds l′ base rtop rlow rloose (flat-part (held-in w to (p - to)) ts)
+  pub holds : (base : ℕ) (ts : Trees) → 0 < base → base ≤ top → Holds false l base top low loose ts
+      → Holds false l′ base rtop rlow rloose (flat-part (held-in w to (p - to)) ts)
   pub flat-is : (own : Option ℕ) (g : Gathered) → flat b own (from-back w lo (p - lo)) true [] 0 g
       ≡ flat b own (from-back w lo (to - lo)) false [] 0 (gather (flat-part (held-in w to (p - to))) g)

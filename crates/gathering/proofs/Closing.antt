@@ -1,5 +1,6 @@
 -- The loose children of a tree become a group. Assumes nothing.
 use mathlib.Core.Path.{_≡_, refl}
+use mathlib.Core.Bool.{false}
 use mathlib.Core.List.{List}
 use mathlib.Core.Option.{some}
 use Prim.Native.Nat.{ℕ, _+_, _-_}
@@ -15,7 +16,7 @@ closed {i = i} el q = record {
   top-is = refl;
   kept = q .kept;
   holds = λ base low g live above free h. record {
-    groups-at = rw (h .edge-is, ← el) (q .holds base low (some i) (g .loose) (g .groups) live above free refl refl (h .loose-at) (h .groups-at));
+    groups-at = rw (h .edge-is, ← el) (q .holds false base low (some i) (g .loose) (g .groups) live above free refl refl (h .loose-at) (h .groups-at));
     loose-at = refl;
     edge-is = refl;
   };

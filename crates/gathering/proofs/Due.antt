@@ -9,7 +9,7 @@ use lib.Dec.{leb}
 use Rattle.tree.specs.Trees.{nil, tree, part, _⊕_, is-nil}
 use Rattle.tree.specs.Items.{Items, same}
 use Rattle.tree.specs.Pack.{run-part}
-use Rattle.tree.specs.Balance.{same-type, total}
+use Rattle.tree.specs.Balance.{in-set, same-type, total}
 use Rattle.tree.specs.Groups.{Gathered, fresh, gather, close, pass, rest-closed, finish}
 use Rattle.tree.proofs.OwnLaws.{own-total-⊕, own-finish, total-group}
 use Rattle.gathering.specs.Gathering.{due}
@@ -23,7 +23,7 @@ module _ (own : Option ℕ) where
   -- a group is one unit over the children that it takes
   pub due-close : (i s : ℕ) (g : Gathered) → due own (close i s g) ≤ suc (due own g)
   unfolding due close own-total
-  due-close i s g = omega (arith, total-group own (some i) s (g .edge - s) (g .loose) (g .groups))
+  due-close i s g = omega (arith, total-group (in-set false own) (some i) s (g .edge - s) (g .loose) (g .groups))
 
   pub due-pass : (b i e : ℕ) (g : Gathered) → due own (pass b i e g) ≤ suc (due own g)
   unfolding pass
@@ -33,13 +33,13 @@ module _ (own : Option ℕ) where
       go true = due-close i e g
       go false = omega arith
 
-  pub total-closed : (i s : ℕ) (g : Gathered) → total own ((rest-closed i s g) .groups) ≤ suc (due own g)
+  pub total-closed : (i s : ℕ) (g : Gathered) → total (in-set false own) ((rest-closed i s g) .groups) ≤ suc (due own g)
   unfolding rest-closed close due
   total-closed i s g = go (is-nil (g .loose))
     where
-      go : (x : Bool) → total own ((elim x as (λ y. Gathered) [ true ↦ g | false ↦ close i s g ]) .groups) ≤ suc (own-total own (g .loose) + total own (g .groups))
+      go : (x : Bool) → total (in-set false own) ((elim x as (λ y. Gathered) [ true ↦ g | false ↦ close i s g ]) .groups) ≤ suc (own-total (in-set false own) (g .loose) + total (in-set false own) (g .groups))
       go true = omega arith
-      go false = total-group own (some i) s (g .edge - s) (g .loose) (g .groups)
+      go false = total-group (in-set false own) (some i) s (g .edge - s) (g .loose) (g .groups)
 
   -- children that are no trees of the own type leave what is due as it is
   pub due-part : (s l : ℕ) (ws : List ℕ) (g : Gathered) → due own (gather (part s l ws) g) ≡ due own g
@@ -53,21 +53,21 @@ module _ (own : Option ℕ) where
   pub due-tree : (F i s e : ℕ) (inner g : Gathered) → same own i ≡ false → due own (gather (λ ts. finish F i s e inner ⊕ ts) g) ≡ due own g
   unfolding due gather
   due-tree F i s e inner g h =
-      omega (arith, own-total-⊕ own (finish F i s e inner) (g .loose), own-finish own F i s e inner h)
+      omega (arith, own-total-⊕ (in-set false own) (finish F i s e inner) (g .loose), own-finish own F i s e inner h)
 
-  no-size : (own-total own nil ≡ 0) × (total own nil ≡ 0)
+  no-size : (own-total (in-set false own) nil ≡ 0) × (total (in-set false own) nil ≡ 0)
   unfolding own-total total
   no-size = (refl, refl)
 
   -- a leaf is at most one unit
   pub due-leaf : (t : Option ℕ) (s l : ℕ) (g : Gathered) → due own (gather (tree t s l nil) g) ≤ suc (due own g)
   unfolding due gather own-total
-  due-leaf t s l g = go (same-type own t)
+  due-leaf t s l g = go (same-type (in-set false own) t)
     where
-      one : total own (tree t s l nil nil) ≤ 1
-      one = omega (arith, total-group own t s l nil nil, no-size .0, no-size .1)
+      one : total (in-set false own) (tree t s l nil nil) ≤ 1
+      one = omega (arith, total-group (in-set false own) t s l nil nil, no-size .0, no-size .1)
 
-      go : (x : Bool) → (elim x [ true ↦ total own (tree t s l nil nil) | false ↦ 0 ] + own-total own (g .loose)) + total own (g .groups)
-          ≤ suc (own-total own (g .loose) + total own (g .groups))
+      go : (x : Bool) → (elim x [ true ↦ total (in-set false own) (tree t s l nil nil) | false ↦ 0 ] + own-total (in-set false own) (g .loose)) + total (in-set false own) (g .groups)
+          ≤ suc (own-total (in-set false own) (g .loose) + total (in-set false own) (g .groups))
       go true = omega (arith, one)
       go false = omega arith

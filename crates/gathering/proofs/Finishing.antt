@@ -11,7 +11,7 @@ use lib.Dec.{ltb}
 use lib.ListN.{length}
 use Rattle.tree.specs.Trees.{Trees, nil, tree, part, _⊕_, siblings, is-nil}
 use Rattle.tree.specs.Cells.{kind, id-word}
-use Rattle.tree.specs.Balance.{total, balance}
+use Rattle.tree.specs.Balance.{in-set, total, balance}
 use Rattle.tree.specs.Items.{repeats}
 use Rattle.tree.specs.Groups.{Gathered, rest-closed, finish}
 use Rattle.tree.proofs.ListingLaws.{⊕-nil}
@@ -46,12 +46,12 @@ id-some i = refl
 -- groups to be balanced
 module _ {w : List ℕ} {stack top i s e groups next : ℕ} where
   pub groups-node : GroupsReady w stack top i s e groups next → Readable w groups
-  groups-node p = readable w (p .base) top (p .low) groups (p .us) (omega (arith, p .room, p .under, p .inside)) (p .holds)
+  groups-node p = readable false w (p .base) top (p .low) groups (p .us) (omega (arith, p .room, p .under, p .inside)) (p .holds)
 
   module _ {k : ℕ} (ek : k ≡ told w groups 8) where
     pub counted : (p : GroupsReady w stack top i s e groups next) → siblings (p .us) ≡ k
     counted p =
-        omega (arith, ek ∙ tells-trees w (p .base) top (p .low) groups (p .us) (p .holds), siblings-total (some i) (p .us), p .room, p .under, p .fits)
+        omega (arith, ek ∙ tells-trees false w (p .base) top (p .low) groups (p .us) (p .holds), siblings-total (in-set false (some i)) (p .us), p .room, p .under, p .fits)
 
     pub some-row : (p : GroupsReady w stack top i s e groups next) → 1 ≤ k
     some-row p = omega (arith, counted p, siblings-some (p .us) (p .some-group))
@@ -61,7 +61,7 @@ module _ {w : List ℕ} {stack top i s e groups next : ℕ} where
       base = p .base;
       top = top;
       low = p .low;
-      type = some i;
+      type = in-set false (some i);
       us = p .us;
       tail = nil;
       inside = omega (arith, p .room, p .under, p .inside);
@@ -82,7 +82,7 @@ module _ {w : List ℕ} {stack top i s e groups next : ℕ} where
         row = record {
           base = p .base;
           low = p .low;
-          type = some i;
+          type = in-set false (some i);
           us = p .us;
           tail = nil;
           rest = p .rest;
@@ -128,7 +128,7 @@ unfolding finish _⊕_
 finish-loose F i s e g rest h =
     let t : (ltb i F || is-nil (g .groups)) ≡ true = or-true (ltb i F) (is-nil (g .groups)) (is-nil-nil (g .groups) h) in
     let kids : g .loose ⊕ g .groups ≡ g .loose = ap (λ (ts : Trees). g .loose ⊕ ts) h ∙ ⊕-nil (g .loose) in
-    ap (λ (x : Bool). elim x as (λ y. Trees) [ true ↦ tree (some i) s (e - s) (g .loose ⊕ g .groups) nil | false ↦ balance (some i) (some i) s (e - s) ((rest-closed i s g) .groups) ] ⊕ rest) t
+    ap (λ (x : Bool). elim x as (λ y. Trees) [ true ↦ tree (some i) s (e - s) (g .loose ⊕ g .groups) nil | false ↦ balance (in-set false (some i)) (in-set false (some i)) s (e - s) ((rest-closed i s g) .groups) ] ⊕ rest) t
     ∙ ap (λ (ts : Trees). tree (some i) s (e - s) ts rest) kids
 
 not-plain : (F i : ℕ) (ts : Trees) → (i < F → ts ≡ nil) → is-nil ts ≡ false → (ltb i F || is-nil ts) ≡ false
@@ -149,13 +149,13 @@ own-repeat F i ts h q = go (decLe F i)
     go (no a) = let z : _≡_ {A = Bool} true false = sym (is-nil-nil ts (h (omega arith))) ∙ q in let y : _≡_ {A = ℕ} 0 1 = cc in absurd (omega arith)
 
 finish-groups : (F i s e : ℕ) (g : Gathered) → (i < F → g .groups ≡ nil) → is-nil (g .groups) ≡ false
-    → finish F i s e g ≡ balance (some i) (some i) s (e - s) ((rest-closed i s g) .groups)
+    → finish F i s e g ≡ balance (in-set false (some i)) (in-set false (some i)) s (e - s) ((rest-closed i s g) .groups)
 unfolding finish
 finish-groups F i s e g h q =
-    ap (λ (x : Bool). elim x as (λ y. Trees) [ true ↦ tree (some i) s (e - s) (g .loose ⊕ g .groups) nil | false ↦ balance (some i) (some i) s (e - s) ((rest-closed i s g) .groups) ])
+    ap (λ (x : Bool). elim x as (λ y. Trees) [ true ↦ tree (some i) s (e - s) (g .loose ⊕ g .groups) nil | false ↦ balance (in-set false (some i)) (in-set false (some i)) s (e - s) ((rest-closed i s g) .groups) ])
     (not-plain F i (g .groups) h q)
 
-pub nil-total : (ts : Trees) → 1 ≤ total none ts → is-nil ts ≡ false
+pub nil-total : (ts : Trees) → 1 ≤ total (in-set false none) ts → is-nil ts ≡ false
 unfolding total is-nil
 nil-total nil h = absurd (omega arith)
 nil-total (tree t s l kids rest) h = refl
@@ -169,13 +169,13 @@ module _ {w : List ℕ} {stack top i s e groups loose edge next : ℕ} where
   finish-fits p = omega (arith, p .room, p .under, p .fits)
 
   pub finish-loose-node : FinishReady w stack top i s e groups loose edge next → Readable w loose
-  finish-loose-node p = readable w (p .base) top (p .low) loose (p .g .loose) (omega (arith, finish-room p)) (p .holds .loose-at)
+  finish-loose-node p = readable false w (p .base) top (p .low) loose (p .g .loose) (omega (arith, finish-room p)) (p .holds .loose-at)
 
   pub finish-groups-node : FinishReady w stack top i s e groups loose edge next → Readable w groups
-  finish-groups-node p = readable w (p .base) top (p .low) groups (p .g .groups) (omega (arith, finish-room p)) (p .holds .groups-at)
+  finish-groups-node p = readable false w (p .base) top (p .low) groups (p .g .groups) (omega (arith, finish-room p)) (p .holds .groups-at)
 
   pub finish-next : FinishReady w stack top i s e groups loose edge next → Readable w next
-  finish-next p = readable w (p .base) top (p .low) next (p .rest) (omega (arith, finish-room p)) (p .onto)
+  finish-next p = readable false w (p .base) top (p .low) next (p .rest) (omega (arith, finish-room p)) (p .onto)
 
   -- no groups
   pub finished-loose : FinishReady w stack top i s e groups loose edge next → groups ≡ 0 → {len : ℕ} → len ≡ e - s
@@ -188,7 +188,7 @@ module _ {w : List ℕ} {stack top i s e groups loose edge next : ℕ} where
     used = λ p. omega arith;
     holds = λ p.
         rw (finish-loose (p .F) i s e (p .g) (p .rest) (none-at w (p .base) top (p .low) groups (p .g .groups) (p .holds .groups-at) z), ← el)
-        (t .holds (p .base) (p .low) (some i) (p .g .loose) (p .rest) (p .live) (p .above) (omega (arith, p .room, p .under)) refl refl (p .holds .loose-at) (p .onto));
+        (t .holds false (p .base) (p .low) (some i) (p .g .loose) (p .rest) (p .live) (p .above) (omega (arith, p .room, p .under)) refl refl (p .holds .loose-at) (p .onto));
   }
 
   -- groups, after the children left over
@@ -199,7 +199,7 @@ module _ {w : List ℕ} {stack top i s e groups loose edge next : ℕ} where
     pub due-own : (p : FinishReady w stack top i s e groups loose edge next) → due (repeats (p .F) i) (p .g) ≡ due (some i) (p .g)
     due-own p = ap (λ (own : Option ℕ). due own (p .g)) (own-repeat (p .F) i (p .g .groups) (p .plain) (some-group p))
 
-    pub room-closed : (p : FinishReady w stack top i s e groups loose edge next) → rtop + 24 * total (some i) ((rest-closed i s (p .g)) .groups) ≤ stack
+    pub room-closed : (p : FinishReady w stack top i s e groups loose edge next) → rtop + 24 * total (in-set false (some i)) ((rest-closed i s (p .g)) .groups) ≤ stack
     room-closed p = omega (arith, p .room, c .few, total-closed (some i) i s (p .g), due-own p)
 
     abbrev pub balance-ready : FinishReady w stack top i s e groups loose edge next → GroupsReady w₁ stack rtop i s e rgroups next
@@ -215,9 +215,9 @@ module _ {w : List ℕ} {stack top i s e groups loose edge next : ℕ} where
       fits = p .fits;
       holds = (c .holds (p .base) (p .low) (p .g) (p .live) (p .above) (omega (arith, p .room, p .under)) (p .holds)) .groups-at;
       onto =
-          frame w w₁ (p .base) top (p .low) rtop (p .low) (c .grown) (omega arith)
+          frame false w w₁ (p .base) top (p .low) rtop (p .low) (c .grown) (omega arith)
           (same-less w w₁ 0 top (top + 10) (p .base) top (p .low) (omega arith) (omega arith) (omega (arith, p .room, p .under)) (c .kept)) next (p .rest) (p .onto);
-      some-group = nil-total ((rest-closed i s (p .g)) .groups) (total-rest-closed none i s (p .g) (some-group p));
+      some-group = nil-total ((rest-closed i s (p .g)) .groups) (total-rest-closed (in-set false none) i s (p .g) (some-group p));
       ends = ends-well (p .T) (Parts (p .T)) s e ((rest-closed i s (p .g)) .groups) (well-rest-closed (p .T) (Parts (p .T)) i s e (p .g) (p .known) (p .gathers)) (p .last);
       room = room-closed p;
     }

@@ -11,12 +11,12 @@ use Rattle.store.specs.Store.{Holds, Same}
 use Rattle.gathering.specs.Gathering.{Closed, PassedOver, RestClosed}
 
 -- an address is 0 where there is no tree
-pub none-at : (w : List ℕ) (base top low n : ℕ) (ts : Trees) → Holds w base top low n ts → n ≡ 0 → ts ≡ nil
+pub none-at : (w : List ℕ) (base top low n : ℕ) (ts : Trees) → Holds false w base top low n ts → n ≡ 0 → ts ≡ nil
 none-at w base top low n nil h e = refl
 none-at w base top low n (tree t s l kids rest) h e = absurd (omega (arith, h .node .live))
 none-at w base top low n (part s l ws rest) h e = absurd (omega (arith, h .node .live))
 
-pub some-at : (w : List ℕ) (base top low n : ℕ) (ts : Trees) → Holds w base top low n ts → (n ≡ 0 → ⊥) → is-nil ts ≡ false
+pub some-at : (w : List ℕ) (base top low n : ℕ) (ts : Trees) → Holds false w base top low n ts → (n ≡ 0 → ⊥) → is-nil ts ≡ false
 unfolding is-nil
 some-at w base top low n nil h e = absurd (e h)
 some-at w base top low n (tree t s l kids rest) h e = refl

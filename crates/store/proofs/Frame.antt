@@ -12,7 +12,7 @@ use lib.ListN.{length, getD, set, length-append, length-set}
 use lib.Seq.{getD-set-same, getD-set-other}
 use Rattle.tree.specs.Trees.{Trees, nil, tree, part, nodes, siblings}
 use Rattle.tree.specs.Cells.{packed}
-use Rattle.tree.specs.Balance.{SetType, under, type-under, equal-types, all-of, total, same-type}
+use Rattle.tree.specs.Balance.{SetType, in-set, type-under, equal-types, all-of, total, same-type}
 use Rattle.tree.proofs.BalanceLaws.{same-refl, equal-is, all-of-counted, total-counted}
 use Rattle.store.proofs.Types.{typed-is, typed-part}
 use Rattle.words.specs.Words.{put}
@@ -139,24 +139,24 @@ likes-tree t s l kids rest = rw (so-true (same-type t (t .type)) (same-refl t)) 
 
 -- and by another type: the same where the two count as one, and else 0
 likes-typed : (f : Bool) (t u : Option ℕ) (s l : ℕ) (kids rest : Trees)
-    → cond (same-type (under f t) u) (likes (under f u) (tree u s l kids rest)) 0 ≡ likes (under f t) (tree u s l kids rest)
+    → cond (same-type (in-set f t) u) (likes (in-set f u) (tree u s l kids rest)) 0 ≡ likes (in-set f t) (tree u s l kids rest)
 unfolding likes all-of
-likes-typed f t u s l kids rest = go (same-type (under f t) u) refl
+likes-typed f t u s l kids rest = go (same-type (in-set f t) u) refl
   where
     ts : Trees
     ts = tree u s l kids rest
 
-    go : (x : Bool) → same-type (under f t) u ≡ x → cond x (likes (under f u) ts) 0 ≡ likes (under f t) ts
+    go : (x : Bool) → same-type (in-set f t) u ≡ x → cond x (likes (in-set f u) ts) 0 ≡ likes (in-set f t) ts
     go true e =
         let same = equal-is (type-under f t) (type-under f u) (subst So (sym e) tt) in
         sym (rw (all-of-counted f t u same ts, total-counted f t u same ts))
     go false e = rw e
 
 module _ (f : Bool) (w : List ℕ) (base top low : ℕ) where
-  pub tells-like : (n : ℕ) (ts : Trees) (t : Option ℕ) → Holds f w base top low n ts → liked w n (stored-kind (under f t)) (stored-id (under f t)) ≡ likes (under f t) ts
-  tells-like n nil t h = rw (eq-eqb n 0 h) (likes-nil (under f t))
+  pub tells-like : (n : ℕ) (ts : Trees) (t : Option ℕ) → Holds f w base top low n ts → liked w n (stored-kind (in-set f t)) (stored-id (in-set f t)) ≡ likes (in-set f t) ts
+  tells-like n nil t h = rw (eq-eqb n 0 h) (likes-nil (in-set f t))
   tells-like n (part s l ws rest) t h =
-      rw (ne-eqb n 0 (λ e. omega (arith, h .node .live)), typed-part f t w n (h .node .kind-at)) (likes-part (under f t) s l ws rest)
+      rw (ne-eqb n 0 (λ e. omega (arith, h .node .live)), typed-part f t w n (h .node .kind-at)) (likes-part (in-set f t) s l ws rest)
   tells-like n (tree u s l kids rest) t h =
       rw (ne-eqb n 0 (λ e. omega (arith, h .node .live)), typed-is f t u w n (h .node .kind-at) (h .node .id-at), h .node .like-at) (likes-typed f t u s l kids rest)
 
@@ -192,7 +192,7 @@ module _ (f : Bool) (w : List ℕ) (top : ℕ) (room : top + 10 ≤ length w) (b
           like-at = at 9 (omega arith);
         }
 
-    pub new-tree : (t : Option ℕ) (kids rest : Trees) → k ≡ stored-kind (under f t) → i ≡ stored-id (under f t) → Holds f w base top low a kids → Holds f w base top low n rest
+    pub new-tree : (t : Option ℕ) (kids rest : Trees) → k ≡ stored-kind (in-set f t) → i ≡ stored-id (in-set f t) → Holds f w base top low a kids → Holds f w base top low n rest
         → x ≡ word (word (told w a 6 + told w n 6) + 1) → y ≡ word (told w a 7 + told w n 7) → z ≡ word (told w n 8 + 1)
         → o ≡ liked-on (max 1 (liked w a k i)) (liked w n k i)
         → Holds f w₁ base (top + 10) low top (tree t s l kids rest)
@@ -205,7 +205,7 @@ module _ (f : Bool) (w : List ℕ) (top : ℕ) (room : top + 10 ≤ length w) (b
         let q₂ = tells-trees f w base top low n rest hn in
         let l₁ = tells-like f w base top low a kids t ha in
         let l₂ = tells-like f w base top low n rest t hn in
-        let own : o ≡ likes (under f t) (tree t s l kids rest) = eo ∙ rw (ek, ei, l₁, l₂) (likes-tree (under f t) s l kids rest) in
+        let own : o ≡ likes (in-set f t) (tree t s l kids rest) = eo ∙ rw (ek, ei, l₁, l₂) (likes-tree (in-set f t) s l kids rest) in
         record {
           node = rw (← ek, ← ei, ← own) (new-node (tree t s l kids rest) (omega arith) (rw length-append (omega arith)) (omega arith));
           first = rw (at 4 (omega arith)) (frame f w w₁ base top low (top + 10) low (omega arith) (omega arith) kept a kids ha);

@@ -9,7 +9,7 @@ use borrow.Author.Tests.{ne-eqb}
 use lib.Dec.{eqb}
 use lib.ListN.{getD}
 use Rattle.tree.specs.Cells.{kind, id-word}
-use Rattle.tree.specs.Balance.{under, type-under, equal-types, same-type}
+use Rattle.tree.specs.Balance.{in-set, type-under, equal-types, same-type}
 use Rattle.store.specs.Store.{stored-kind, stored-id, kind-written, id-written, typed}
 
 pub type-same : (t u : Option ℕ) → kind t ≡ kind u → id-word t ≡ id-word u → t ≡ u
@@ -25,7 +25,7 @@ not-part none k = omega arith
 not-part (some a) k = omega arith
 
 -- the cell of a node has the node's type
-pub kind-back : (f : Bool) (t : Option ℕ) → kind-written (stored-kind (under f t)) (stored-id (under f t)) ≡ kind t
+pub kind-back : (f : Bool) (t : Option ℕ) → kind-written (stored-kind (in-set f t)) (stored-id (in-set f t)) ≡ kind t
 unfolding kind id-word
 kind-back false none = refl
 kind-back false (some i) = refl
@@ -33,7 +33,7 @@ kind-back true none = refl
 kind-back true (some zero) = refl
 kind-back true (some (suc i)) = refl
 
-pub id-back : (f : Bool) (t : Option ℕ) → id-written (stored-kind (under f t)) (stored-id (under f t)) ≡ id-word t
+pub id-back : (f : Bool) (t : Option ℕ) → id-written (stored-kind (in-set f t)) (stored-id (in-set f t)) ≡ id-word t
 unfolding kind id-word
 id-back false none = refl
 id-back false (some i) = refl
@@ -42,14 +42,14 @@ id-back true (some zero) = refl
 id-back true (some (suc i)) = refl
 
 -- so a node's kind and id tell one type, whatever the set
-pub stored-same : (f g : Bool) (t u : Option ℕ) → stored-kind (under f t) ≡ stored-kind (under g u) → stored-id (under f t) ≡ stored-id (under g u) → t ≡ u
+pub stored-same : (f g : Bool) (t u : Option ℕ) → stored-kind (in-set f t) ≡ stored-kind (in-set g u) → stored-id (in-set f t) ≡ stored-id (in-set g u) → t ≡ u
 stored-same f g t u k i =
     type-same t u (sym (kind-back f t) ∙ (ap₂ kind-written k i ∙ kind-back g u)) (sym (id-back f t) ∙ (ap₂ id-written k i ∙ id-back g u))
 
 -- nodes compare as types do under the set
 compared : (f : Bool) (t u : Option ℕ)
-    → cond (eqb (stored-kind (under f u)) (stored-kind (under f t))) (cond (eqb (stored-kind (under f t)) 3) true (eqb (stored-id (under f t)) (stored-id (under f u)))) false
-    ≡ same-type (under f t) u
+    → cond (eqb (stored-kind (in-set f u)) (stored-kind (in-set f t))) (cond (eqb (stored-kind (in-set f t)) 3) true (eqb (stored-id (in-set f t)) (stored-id (in-set f u)))) false
+    ≡ same-type (in-set f t) u
 unfolding kind id-word equal-types
 compared false none none = refl
 compared false none (some i) = refl
@@ -65,10 +65,10 @@ compared true (some (suc r)) none = refl
 compared true (some (suc r)) (some zero) = refl
 compared true (some (suc r)) (some (suc i)) = refl
 
-pub typed-is : (f : Bool) (t u : Option ℕ) (w : List ℕ) (n : ℕ) → getD w n 0 ≡ stored-kind (under f u) → getD w (n + 1) 0 ≡ stored-id (under f u)
-    → typed w n (stored-kind (under f t)) (stored-id (under f t)) ≡ same-type (under f t) u
+pub typed-is : (f : Bool) (t u : Option ℕ) (w : List ℕ) (n : ℕ) → getD w n 0 ≡ stored-kind (in-set f u) → getD w (n + 1) 0 ≡ stored-id (in-set f u)
+    → typed w n (stored-kind (in-set f t)) (stored-id (in-set f t)) ≡ same-type (in-set f t) u
 typed-is f t u w n k i = rw (k, i) (compared f t u)
 
 -- a part's node is of no type
-pub typed-part : (f : Bool) (t : Option ℕ) (w : List ℕ) (n : ℕ) → getD w n 0 ≡ 2 → typed w n (stored-kind (under f t)) (stored-id (under f t)) ≡ false
-typed-part f t w n k = rw (k, ne-eqb 2 (stored-kind (under f t)) (λ e. not-part (type-under f t) (sym e)))
+pub typed-part : (f : Bool) (t : Option ℕ) (w : List ℕ) (n : ℕ) → getD w n 0 ≡ 2 → typed w n (stored-kind (in-set f t)) (stored-id (in-set f t)) ≡ false
+typed-part f t w n k = rw (k, ne-eqb 2 (stored-kind (in-set f t)) (λ e. not-part (type-under f t) (sym e)))

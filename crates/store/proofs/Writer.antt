@@ -11,7 +11,7 @@ use lib.Dec.{eqb}
 use lib.ListN.{length, getD, take, drop, length-append, length-drop}
 use lib.Seq.{paste, ext-getD, length-take-le, getD-take, getD-drop}
 use Rattle.tree.specs.Trees.{Trees, nil, tree, part, nodes, siblings}
-use Rattle.tree.specs.Balance.{under, type-under}
+use Rattle.tree.specs.Balance.{in-set, type-under}
 use Rattle.tree.specs.Cells.{packed, kind, id-word, tree-cells, unless-none, cell-width}
 use Rattle.words.specs.Words.{put, front}
 use Rattle.words.proofs.Runs.{Fronted, fronted-length, fronted-next, fronted-all}
@@ -244,7 +244,7 @@ module _ (w₀ : List ℕ) (top root start : ℕ) (out₀ words₀ : List ℕ) (
           now : Trees
           now = tree t s l kids rest
 
-          node : Node w (p .base) top at (stored-kind (under (p .none-first) t)) (stored-id (under (p .none-first) t)) s l (likes (under (p .none-first) t) now) now
+          node : Node w (p .base) top at (stored-kind (in-set (p .none-first) t)) (stored-id (in-set (p .none-first) t)) s l (likes (in-set (p .none-first) t) now) now
           node = g .holds .node
 
           ready : TreeReady

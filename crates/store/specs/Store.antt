@@ -9,7 +9,7 @@ use lib.ListN.{length, getD, drop}
 use lib.Seq.{paste}
 use Rattle.words.specs.Words.{put, front}
 use Rattle.tree.specs.Trees.{Trees, nil, tree, part, nodes, siblings}
-use Rattle.tree.specs.Balance.{SetType, under, type-under, all-of, total}
+use Rattle.tree.specs.Balance.{SetType, in-set, type-under, all-of, total}
 use Rattle.tree.specs.Cells.{cell-width, packed, kind, id-word, tree-cells}
 
 -- a count as a 32-bit word keeps it
@@ -106,7 +106,7 @@ abbrev pub Holds : (none-first : Bool) (w : List ℕ) (base top low n : ℕ) →
 Holds f w base top low n nil = n ≡ 0
 Holds f w base top low n (tree t s l kids rest) =
     record {
-      node : Node w base top n (stored-kind (under f t)) (stored-id (under f t)) s l (likes (under f t) (tree t s l kids rest)) (tree t s l kids rest);
+      node : Node w base top n (stored-kind (in-set f t)) (stored-id (in-set f t)) s l (likes (in-set f t) (tree t s l kids rest)) (tree t s l kids rest);
       first : Holds f w base top low (node-first w n) kids;
       next : Holds f w base top low (node-next w n) rest;
     }
@@ -148,7 +148,7 @@ pub record PushedTree (w w′ : List ℕ) (top k i s l kids next r : ℕ) : Type
   pub address : r ≡ top
   pub kept : Same w w′ 0 top (top + node-width)
   pub holds : (f : Bool) (base low : ℕ) (t : Option ℕ) (ks rest : Trees) → 0 < base → base ≤ top → top + node-width ≤ low
-      → k ≡ stored-kind (under f t) → i ≡ stored-id (under f t)
+      → k ≡ stored-kind (in-set f t) → i ≡ stored-id (in-set f t)
       → Holds f w base top low kids ks → Holds f w base top low next rest
       → Holds f w′ base (top + node-width) low r (tree t s l ks rest)
 

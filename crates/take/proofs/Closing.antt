@@ -1,5 +1,6 @@
 -- The present tree is finished, and the tree around it is read on. Assumes nothing.
 use mathlib.Core.Path.{_≡_, refl, sym, ap, subst, _∙_}
+use mathlib.Core.Bool.{false}
 use mathlib.Core.List.{List, [], _∷_}
 use mathlib.Core.Option.{Option, some}
 use Prim.Native.Nat.{ℕ, _+_, _-_, _*_, _/_, _≤_, _<_}
@@ -143,7 +144,7 @@ module _ (F T b : ℕ) (w l : List ℕ) (whole : Gathered) (s : State) (go : Goi
           fits = v .fits;
           gathers = gathers-tree T (go .types) F b (go .bound) i from end (frames .hi) (k .end) (go .g) (k .g) (frames .known) (frames .ordered) (frames .ends) (ready .gathers) (v .gathers);
           holds = record {
-            groups-at = frame l l′ (go .base) top (s .low) rtop (s .low) (done .grown) (omega arith) same (getD l (under + 4) 0) (k .g .groups) (v .holds .groups-at);
+            groups-at = frame false l l′ (go .base) top (s .low) rtop (s .low) (done .grown) (omega arith) same (getD l (under + 4) 0) (k .g .groups) (v .holds .groups-at);
             loose-at = done .holds ready;
             edge-is = v .holds .edge-is;
           };

@@ -144,7 +144,7 @@ module _ (F T b : ℕ) (w l : List ℕ) (whole : Gathered) (s : State) (go : Goi
         inside = omega (arith, go .inside, taken .lower, same₁ .size);
         fits = omega (arith, go .inside, go .fits, taken .lower);
         holds = taken .holds readied;
-        onto = frame l l₁ (go .base) top (s .low) rtop rlow (taken .grown) (taken .lower) same₁ (s .children .loose) (go .g .loose) (standing .holds .loose-at);
+        onto = frame false l l₁ (go .base) top (s .low) rtop rlow (taken .grown) (taken .lower) same₁ (s .children .loose) (go .g .loose) (standing .holds .loose-at);
         plain = plain;
         known = standing .fits .known;
         last = omega (arith, standing .fits .ends, go .small);
@@ -170,7 +170,7 @@ module _ (F T b : ℕ) (w l : List ℕ) (whole : Gathered) (s : State) (go : Goi
           fits = standing .fits .rest;
           gathers = gathers-tree T (go .types) F b (go .bound) i a e (go .hi) (s .tree .end) inner (go .g) (standing .fits .known) (standing .fits .ordered) (standing .fits .ends) sound (standing .gathers);
           holds = record {
-            groups-at = frame l l′ (go .base) top (s .low) high rlow (omega (arith, taken .grown, done .grown)) (taken .lower) (same-less l l′ 0 top (s .low) (go .base) top (s .low) (omega arith) (omega arith) (omega arith) same₂) (s .children .groups) (go .g .groups) (standing .holds .groups-at);
+            groups-at = frame false l l′ (go .base) top (s .low) high rlow (omega (arith, taken .grown, done .grown)) (taken .lower) (same-less l l′ 0 top (s .low) (go .base) top (s .low) (omega arith) (omega arith) (omega arith) same₂) (s .children .groups) (go .g .groups) (standing .holds .groups-at);
             loose-at = done .holds closing;
             edge-is = standing .holds .edge-is;
           };

@@ -12,7 +12,7 @@ use Rattle.records.proofs.ParseLaws.{and-left, and-right}
 use Rattle.tree.specs.Trees.{Trees, nil, tree, part, _⊕_, is-nil, last-end}
 use Rattle.tree.specs.Items.{Items, mark, span, same, repeats, items, first, leftmost}
 use Rattle.tree.specs.Pack.{run-from, run-part}
-use Rattle.tree.specs.Balance.{same-type, lone, is-tree, joined, balance}
+use Rattle.tree.specs.Balance.{in-set, same-type, lone, is-tree, joined, balance}
 use Rattle.tree.specs.Groups.{Gathered, fresh, gather, rest-closed, finish}
 use Rattle.tree.specs.Flat.{too-deep, flattened, flat}
 use Rattle.tree.specs.Build.{walk, first-level}
@@ -37,11 +37,11 @@ last-some d d′ (tree t s l kids rest) h = refl
 last-some d d′ (part s l ws rest) h = refl
 
 -- a finished tree ends with its record
-last-alone : (i s l d : ℕ) (ts : Trees) → So (is-tree (some i) s l ts) → (last-end d ts ≡ s + l) × (is-nil ts ≡ false)
+last-alone : (i s l d : ℕ) (ts : Trees) → So (is-tree (in-set false (some i)) s l ts) → (last-end d ts ≡ s + l) × (is-nil ts ≡ false)
 unfolding is-tree lone last-end is-nil
 last-alone i s l d nil h = absurd h
 last-alone i s l d (tree u s′ l′ kids nil) h =
-    let r = and-right (same-type (some i) u) (eqb s s′ && eqb l l′) h in
+    let r = and-right (same-type (in-set false (some i)) u) (eqb s s′ && eqb l l′) h in
     let a = eqb→eq s s′ (and-left (eqb s s′) (eqb l l′) r) in
     let c = eqb→eq l l′ (and-right (eqb s s′) (eqb l l′) r) in
     (omega (arith, a, c), refl)
@@ -49,11 +49,11 @@ last-alone i s l d (tree u s′ l′ kids (tree u″ s″ l″ kids″ rest)) h 
 last-alone i s l d (tree u s′ l′ kids (part s″ l″ ws rest)) h = absurd h
 last-alone i s l d (part s′ l′ ws rest) h = absurd h
 
-last-joined : (i s l d : ℕ) (kids : Trees) → (last-end d (joined (some i) s l kids) ≡ s + l) × (is-nil (joined (some i) s l kids) ≡ false)
+last-joined : (i s l d : ℕ) (kids : Trees) → (last-end d (joined (in-set false (some i)) s l kids) ≡ s + l) × (is-nil (joined (in-set false (some i)) s l kids) ≡ false)
 unfolding joined last-end is-nil
-last-joined i s l d kids = go (is-tree (some i) s l kids) refl
+last-joined i s l d kids = go (is-tree (in-set false (some i)) s l kids) refl
   where
-    go : (x : Bool) → is-tree (some i) s l kids ≡ x
+    go : (x : Bool) → is-tree (in-set false (some i)) s l kids ≡ x
         → (last-end d (elim x [ true ↦ kids | false ↦ tree (some i) s l kids nil ]) ≡ s + l) × (is-nil (elim x [ true ↦ kids | false ↦ tree (some i) s l kids nil ]) ≡ false)
     go true e = last-alone i s l d kids (subst So (sym e) tt)
     go false e = (refl, refl)
@@ -65,8 +65,8 @@ last-finish F i s e d g h = go (ltb i F || is-nil (g .groups))
     end : s + (e - s) ≡ e
     end = omega arith
 
-    go : (x : Bool) → (last-end d (elim x [ true ↦ tree (some i) s (e - s) (g .loose ⊕ g .groups) nil | false ↦ balance (some i) (some i) s (e - s) ((rest-closed i s g) .groups) ]) ≡ e)
-        × (is-nil (elim x [ true ↦ tree (some i) s (e - s) (g .loose ⊕ g .groups) nil | false ↦ balance (some i) (some i) s (e - s) ((rest-closed i s g) .groups) ]) ≡ false)
+    go : (x : Bool) → (last-end d (elim x [ true ↦ tree (some i) s (e - s) (g .loose ⊕ g .groups) nil | false ↦ balance (in-set false (some i)) (in-set false (some i)) s (e - s) ((rest-closed i s g) .groups) ]) ≡ e)
+        × (is-nil (elim x [ true ↦ tree (some i) s (e - s) (g .loose ⊕ g .groups) nil | false ↦ balance (in-set false (some i)) (in-set false (some i)) s (e - s) ((rest-closed i s g) .groups) ]) ≡ false)
     go true = (end, refl)
     go false = let j = last-joined i s (e - s) d _ in (j .0 ∙ end, j .1)
 

@@ -1,5 +1,6 @@
 -- A run becomes a part in front of the present tree's children. Assumes nothing.
 use mathlib.Core.Path.{_≡_, refl, sym, ap, subst, _∙_}
+use mathlib.Core.Bool.{false}
 use mathlib.Core.List.{List}
 use mathlib.Core.Option.{Option, some}
 use Prim.Native.Nat.{ℕ, suc, _+_, _-_, _*_, _≤_}
@@ -103,14 +104,14 @@ module _ (F T b : ℕ) (w l : List ℕ) (whole : Gathered) (s : State) (go : Goi
       unfolding gather run-part
       packed-level =
           let f = standing .fits in
-          let loose₁ = frame l l₁ (go .base) top (s .low) top low′ (omega arith) (omega (arith, below)) first-same (s .children .loose) (g .loose) (standing .holds .loose-at) in
+          let loose₁ = frame false l l₁ (go .base) top (s .low) top low′ (omega arith) (omega (arith, below)) first-same (s .children .loose) (g .loose) (standing .holds .loose-at) in
           record {
             stands = rw (first-run k i a e kids rest, after-run k i a e kids rest) at (stands-after F own w (s .tree .floor) (s .p) (suc k) (span i a e kids rest) (standing .stands));
             fits = fits-after F T k a (s .tree .start) a rest (le-refl a) (f .rest);
             gathers = gathers-packed T (go .types) F b (go .bound) i a e k (s .tree .start) (go .hi) (s .tree .end) kids rest g f (standing .gathers) (run-packs F b own i a e kids rest k packs);
             holds = record {
-              groups-at = frame l l′ (go .base) top (s .low) (top + 10) low′ (omega arith) (omega (arith, below)) (same-less l l′ 0 top (s .low) (go .base) top (s .low) (omega arith) (omega arith) (omega arith) whole-same) (s .children .groups) (g .groups) (standing .holds .groups-at);
-              loose-at = pushed .holds (go .base) low′ ws (g .loose) (omega (arith, go .base-is)) (go .above) (omega (arith, room, below)) counted staged loose₁;
+              groups-at = frame false l l′ (go .base) top (s .low) (top + 10) low′ (omega arith) (omega (arith, below)) (same-less l l′ 0 top (s .low) (go .base) top (s .low) (omega arith) (omega arith) (omega arith) whole-same) (s .children .groups) (g .groups) (standing .holds .groups-at);
+              loose-at = pushed .holds false (go .base) low′ ws (g .loose) (omega (arith, go .base-is)) (go .above) (omega (arith, room, below)) counted staged loose₁;
               edge-is = standing .holds .edge-is;
             };
             plain = standing .plain;

@@ -85,8 +85,8 @@ module _ (w l : List ℕ) (b : ℕ) (s : State) (q : Passes w l b s) where
       let h = go .level .holds in (
         omega (arith, room, go .inside),
         omega (arith, room, go .inside, go .fits),
-        readable l (go .base) (s .children .top) (s .low) (s .children .groups) (go .g .groups) (omega (arith, room, go .inside)) (h .groups-at),
-        readable l (go .base) (s .children .top) (s .low) (s .children .loose) (go .g .loose) (omega (arith, room, go .inside)) (h .loose-at),
+        readable false l (go .base) (s .children .top) (s .low) (s .children .groups) (go .g .groups) (omega (arith, room, go .inside)) (h .groups-at),
+        readable false l (go .base) (s .children .top) (s .low) (s .children .loose) (go .g .loose) (omega (arith, room, go .inside)) (h .loose-at),
       )
 
   pub pass-within : (s .p - 1) * 4 + 4 ≤ length w

@@ -136,14 +136,14 @@ module _ (F b : ℕ) (own : Option ℕ) (w l : List ℕ) (s : State) (q : Starts
         let low-is : x .low ≡ s .low - words F run = ap (λ (y : Part). y .low) (v .is) in
         let kept = filled-same l l₁ (s .low - words F run) (s .low) (pack F (leftmost a (first (v .k) rest)) 0 run) (v .filled) (go .inside) in
         let room : s .children .top + 10 ≤ s .low - words F run = omega (arith, go .room, few-words (v .k)) in
-        let loose = frame l l₁ (go .base) (s .children .top) (s .low) (s .children .top) (s .low) (omega arith) (omega arith)
+        let loose = frame false l l₁ (go .base) (s .children .top) (s .low) (s .children .top) (s .low) (omega arith) (omega arith)
         (same-less l l₁ 0 (s .low - words F run) (s .low) (go .base) (s .children .top) (s .low) (omega arith) (omega (arith, room)) (omega arith) kept)
         (s .children .loose) (go .g .loose) (go .level .holds .loose-at) in
         record {
           below = omega (arith, low-is);
           small = omega (arith, go .inside, go .fits);
           room = omega (arith, room, go .inside, kept .size);
-          readable = readable l₁ (go .base) (s .children .top) (s .low) (s .children .loose) (go .g .loose) (omega (arith, room, go .inside, kept .size)) loose;
+          readable = readable false l₁ (go .base) (s .children .top) (s .low) (s .children .loose) (go .g .loose) (omega (arith, room, go .inside, kept .size)) loose;
         }
       where
         few-words : (k : ℕ) → words F (span i a e kids (first k rest)) + 10 ≤ 40 * s .p

@@ -77,4 +77,4 @@ pub record Taken-all (F b S : ℕ) (w l : List ℕ) (top low kids : ℕ) : Type 
   pub above : base ≤ top
   pub room : top + (4 * (length w / record-width) + 12) ≤ low
   pub inside : low ≤ length l
-  pub holds : Holds l base top low kids (first-level F b S (parse w))
+  pub holds : Holds false l base top low kids (first-level F b S (parse w))

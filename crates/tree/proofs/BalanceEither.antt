@@ -7,7 +7,7 @@ use mathlib.Core.Option.{Option, none, some}
 use Prim.Native.Nat.{ℕ, zero, suc, _+_, _-_}
 use lib.Dec.{T, ltb, eqb·zero-suc, eqb·suc-zero}
 use Rattle.tree.specs.Trees.{Trees, nil, tree, part, _⊕_, kids-of, first-start, last-end}
-use Rattle.tree.specs.Balance.{SetType, under, equal-types, same-type, all-of, total, share, grows, groups-from, groups, lone, is-tree, joined, placed, each, divide, balance}
+use Rattle.tree.specs.Balance.{SetType, in-set, equal-types, same-type, all-of, total, share, grows, groups-from, groups, lone, is-tree, joined, placed, each, divide, balance}
 use Rattle.tree.proofs.BalanceLaws.{each-groups, kept-divided, kept-balance}
 
 -- the starts of the trees of `NodeType::none` among siblings and their descendants, in order; parts hold none
@@ -68,22 +68,22 @@ free-kids (part s l ws rest) h = free-nil
 
 -- dividing and balancing by an id, under a set without none, make no tree of kind 3
 module _ (i : ℕ) where
-  through : (v : Option ℕ) (s l : ℕ) (kids rest : Trees) → T (same-type (under false (some i)) v) → nones (tree v s l kids rest) ≡ nones kids ++ nones rest
+  through : (v : Option ℕ) (s l : ℕ) (kids rest : Trees) → T (same-type (in-set false (some i)) v) → nones (tree v s l kids rest) ≡ nones kids ++ nones rest
   unfolding nones equal-types
   through none s l kids rest h = absurd h
   through (some j) s l kids rest h = refl
 
-  free-divide : (n : ℕ) (ts : Trees) → Free ts → Free (divide n (under false (some i)) (share (total (under false (some i)) ts)) ts)
+  free-divide : (n : ℕ) (ts : Trees) → Free ts → Free (divide n (in-set false (some i)) (share (total (in-set false (some i)) ts)) ts)
   unfolding nones divide
   free-divide zero ts h = h
-  free-divide (suc n) ts h = kept-divided nones refl nones-⊕ (under false (some i)) through n ts ∙ h
+  free-divide (suc n) ts h = kept-divided nones refl nones-⊕ (in-set false (some i)) through n ts ∙ h
 
-  pub free-balance : (s l : ℕ) (ts : Trees) → Free ts → Free (balance (under false (some i)) (under false (some i)) s l ts)
+  pub free-balance : (s l : ℕ) (ts : Trees) → Free ts → Free (balance (in-set false (some i)) (in-set false (some i)) s l ts)
   unfolding nones
-  free-balance s l ts h = kept-balance nones refl nones-⊕ (under false (some i)) through s l ts ∙ h
+  free-balance s l ts h = kept-balance nones refl nones-⊕ (in-set false (some i)) through s l ts ∙ h
 
 -- of two ids both sets say the same
-same-either : (none-first : Bool) (i j : ℕ) → same-type (under none-first (some i)) (some j) ≡ same-type (under false (some i)) (some j)
+same-either : (none-first : Bool) (i j : ℕ) → same-type (in-set none-first (some i)) (some j) ≡ same-type (in-set false (some i)) (some j)
 unfolding equal-types
 same-either false i j = refl
 same-either true zero zero = refl
@@ -94,10 +94,10 @@ same-either true (suc i) (suc j) = refl
 module _ (none-first : Bool) (i : ℕ) where
   -- the balance type under the set at hand, and under the one without none
   abbrev t : SetType
-  t = under none-first (some i)
+  t = in-set none-first (some i)
 
   abbrev u : SetType
-  u = under false (some i)
+  u = in-set false (some i)
 
   all-either : (ts : Trees) → Free ts → all-of t ts ≡ all-of u ts
   unfolding all-of
@@ -211,8 +211,8 @@ module _ (none-first : Bool) (i : ℕ) where
 
 -- a tree over trees without kind 3 is balanced alike on either set
 pub balance-either : (none-first : Bool) (i s l : ℕ) (ts : Trees) → nones ts ≡ []
-    → balance (under none-first (some i)) (under none-first (some i)) s l ts ≡ balance (under false (some i)) (under false (some i)) s l ts
+    → balance (in-set none-first (some i)) (in-set none-first (some i)) s l ts ≡ balance (in-set false (some i)) (in-set false (some i)) s l ts
 unfolding balance
 balance-either none-first i s l ts h =
-    let n = total (under false (some i)) ts in
+    let n = total (in-set false (some i)) ts in
     rw (total-either none-first i ts h, divide-either none-first i (suc n) (share n) ts h) (joined-either none-first i s l _ (free-divide i (suc n) ts h))

@@ -9,7 +9,7 @@ use native.Mathlib.Omega.{arith}
 use lib.Dec.{T, ltb, ltb→lt, eqb→eq, eqb-refl}
 use Rattle.tree.specs.Trees.{Trees, nil, tree, part, _⊕_, kids-of}
 use Rattle.tree.specs.Listing.{node-line, node-below}
-use Rattle.tree.specs.Balance.{SetType, under, equal-types, type-under, same-type, all-of, total, share, grows, groups-from, groups, lone, is-tree, joined, placed, each, divide, balance}
+use Rattle.tree.specs.Balance.{SetType, in-set, equal-types, type-under, same-type, all-of, total, share, grows, groups-from, groups, lone, is-tree, joined, placed, each, divide, balance}
 use Rattle.tree.proofs.ListingLaws.{⊕-assoc, view, view-⊕, view-nil, view-tree}
 use Rattle.tree.proofs.PackLaws.{line-repeat, below-repeat}
 
@@ -70,13 +70,13 @@ equal-is (some r) (some i) e = ap some (eqb→eq r i e)
 
 -- a type goes into balanced sizes only as what it counts as
 module _ (f : Bool) (t u : Option ℕ) (e : type-under f t ≡ type-under f u) where
-  pub all-of-counted : (ts : Trees) → all-of (under f t) ts ≡ all-of (under f u) ts
+  pub all-of-counted : (ts : Trees) → all-of (in-set f t) ts ≡ all-of (in-set f u) ts
   unfolding all-of
   all-of-counted nil = refl
   all-of-counted (tree v s l kids rest) = rw (e, all-of-counted rest)
   all-of-counted (part s l ws rest) = refl
 
-  pub total-counted : (ts : Trees) → total (under f t) ts ≡ total (under f u) ts
+  pub total-counted : (ts : Trees) → total (in-set f t) ts ≡ total (in-set f u) ts
   unfolding total
   total-counted nil = refl
   total-counted (tree v s l kids rest) =
@@ -187,6 +187,6 @@ module _ (off : Trees → List ℕ) (off-nil : off nil ≡ []) (off-⊕ : (ts us
   kept-balance s l ts = kept-joined s l (divide (suc (total t ts)) t (share (total t ts)) ts) ∙ kept-divided (total t ts) ts
 
 -- so the listing is, where the balance type is not listed itself
-pub view-balance : (F d : ℕ) (t : Option ℕ) → Hidden F t → (s l : ℕ) (ts : Trees) → view F d (balance (under false t) (under false t) s l ts) ≡ view F d ts
+pub view-balance : (F d : ℕ) (t : Option ℕ) → Hidden F t → (s l : ℕ) (ts : Trees) → view F d (balance (in-set false t) (in-set false t) s l ts) ≡ view F d ts
 view-balance F d t hidden s l ts =
-    kept-balance (view F d) (view-nil F d) (view-⊕ F d) (under false t) (λ u s′ l′ kids rest same. view-hidden F d u s′ l′ kids rest (same-hidden F t u same hidden)) s l ts
+    kept-balance (view F d) (view-nil F d) (view-⊕ F d) (in-set false t) (λ u s′ l′ kids rest same. view-hidden F d u s′ l′ kids rest (same-hidden F t u same hidden)) s l ts

@@ -13,7 +13,7 @@ use lib.Dec.{T as So, ltb, leb, ltb→lt}
 use lib.ListN.{length}
 use borrow.Author.Tests.{le-leb, lt-leb}
 use Rattle.tree.specs.Trees.{Trees, nil, tree, part, _⊕_, nodes, siblings, kids-of, first-start, last-end}
-use Rattle.tree.specs.Balance.{SetType, under, type-under, same-type, all-of, total, share, groups, lone, is-tree, joined, placed, each, divide, balance, balanced}
+use Rattle.tree.specs.Balance.{SetType, in-set, type-under, same-type, all-of, total, share, groups, lone, is-tree, joined, placed, each, divide, balance, balanced}
 use Rattle.tree.specs.Listing.{node-line, node-below, listing, lines}
 use Rattle.tree.specs.Cells.{relative, packed, cells, tree-cells}
 use Rattle.tree.specs.Calls.{written, materialise-cells, balance-cells, list-cells}
@@ -123,14 +123,14 @@ total-nodes t (tree u s l kids rest) = go (same-type t u && all-of t kids) (tota
 total-nodes t (part s l ws rest) = omega (arith, total-nodes t rest)
 
 -- a type that counts as none
-counts-none : (f : Bool) (u : Option ℕ) → So (same-type (under f none) u) → type-under f u ≡ none
+counts-none : (f : Bool) (u : Option ℕ) → So (same-type (in-set f none) u) → type-under f u ≡ none
 counts-none false u e = sym (equal-is none u e)
 counts-none true u e = sym (equal-is none (type-under true u) e)
 
 module _ (f : Bool) where
   -- the balance type
   abbrev t : SetType
-  t = under f none
+  t = in-set f none
 
   -- the children of a balanced tree that has more than 8
   unfoldable pub divided : Trees → Trees
@@ -145,7 +145,7 @@ module _ (f : Bool) where
   wide top s l kids rest h =
       let two = several-divided t (total t kids) kids (several kids (omega arith)) in
       rw (lt-leb (siblings kids) 8 h, balanced)
-      (ap (λ (u : Trees). u ⊕ rest) (joined-several (under f top) s l (divide (suc (total t kids)) t (share (total t kids)) kids) (several _ two)))
+      (ap (λ (u : Trees). u ⊕ rest) (joined-several (in-set f top) s l (divide (suc (total t kids)) t (share (total t kids)) kids) (several _ two)))
 
   -- the children of a balanced tree
   unfoldable pub rebuilt : Trees → Trees

@@ -13,7 +13,7 @@ use Rattle.records.specs.Forest.{Forest, count, behind}
 use Rattle.tree.specs.Trees.{Trees, nil, tree, part, _⊕_, nodes, is-nil}
 use Rattle.tree.specs.Items.{Items, mark, span, same, repeats, items, records, first}
 use Rattle.tree.specs.Pack.{run-from, run-part}
-use Rattle.tree.specs.Balance.{under, same-type, all-of, total, balance}
+use Rattle.tree.specs.Balance.{in-set, same-type, all-of, total, balance}
 use Rattle.tree.specs.Groups.{Gathered, fresh, gather, close, pass, rest-closed, finish}
 use Rattle.tree.specs.Flat.{too-deep, Record, rec, flattened, flat-words, held-end, flat-part, hold, limit, ends, flat}
 use Rattle.tree.specs.Build.{walk, first-level, build}
@@ -28,11 +28,11 @@ module _ (c : List ℕ → ℕ) (cheap : (ws : List ℕ) (n : ℕ) → 1 ≤ n �
   module _ (t : Option ℕ) where
     -- What is gathered, weighed: cells, and one more for each tree of the own type that balancing may go by.
     weight : Gathered → ℕ
-    weight g = (size c (g .loose) + own-total (under false t) (g .loose)) + (size c (g .groups) + total (under false t) (g .groups))
+    weight g = (size c (g .loose) + own-total (in-set false t) (g .loose)) + (size c (g .groups) + total (in-set false t) (g .groups))
 
     weight-close : (i s : ℕ) (g : Gathered) → weight (close i s g) ≤ 2 + weight g
     unfolding weight close size own-total
-    weight-close i s g = omega (arith, total-group (under false t) (some i) s (g .edge - s) (g .loose) (g .groups))
+    weight-close i s g = omega (arith, total-group (in-set false t) (some i) s (g .edge - s) (g .loose) (g .groups))
 
     weight-pass : (b i e : ℕ) (g : Gathered) → weight (pass b i e g) ≤ 2 + weight g
     unfolding pass
@@ -42,16 +42,16 @@ module _ (c : List ℕ → ℕ) (cheap : (ws : List ℕ) (n : ℕ) → 1 ≤ n �
         go true = weight-close i e g
         go false = omega arith
 
-    weight-rest-closed : (i s : ℕ) (g : Gathered) → size c ((rest-closed i s g) .groups) + total (under false t) ((rest-closed i s g) .groups) ≤ 2 + weight g
+    weight-rest-closed : (i s : ℕ) (g : Gathered) → size c ((rest-closed i s g) .groups) + total (in-set false t) ((rest-closed i s g) .groups) ≤ 2 + weight g
     unfolding rest-closed weight close size own-total
     weight-rest-closed i s g = go (is-nil (g .loose))
       where
-        go : (x : Bool) → size c ((elim x as (λ y. Gathered) [ true ↦ g | false ↦ close i s g ]) .groups) + total (under false t) ((elim x as (λ y. Gathered) [ true ↦ g | false ↦ close i s g ]) .groups) ≤ 2 + weight g
+        go : (x : Bool) → size c ((elim x as (λ y. Gathered) [ true ↦ g | false ↦ close i s g ]) .groups) + total (in-set false t) ((elim x as (λ y. Gathered) [ true ↦ g | false ↦ close i s g ]) .groups) ≤ 2 + weight g
         go true = omega arith
-        go false = omega (arith, total-group (under false t) (some i) s (g .edge - s) (g .loose) (g .groups))
+        go false = omega (arith, total-group (in-set false t) (some i) s (g .edge - s) (g .loose) (g .groups))
 
     -- a child in front
-    weight-gather : (f : Trees → Trees) (g : Gathered) (n : ℕ) → ((ts : Trees) → size c (f ts) + own-total (under false t) (f ts) ≤ n + (size c ts + own-total (under false t) ts))
+    weight-gather : (f : Trees → Trees) (g : Gathered) (n : ℕ) → ((ts : Trees) → size c (f ts) + own-total (in-set false t) (f ts) ≤ n + (size c ts + own-total (in-set false t) ts))
         → weight (gather f g) ≤ n + weight g
     unfolding weight gather
     weight-gather f g n h = omega (arith, h (g .loose))
@@ -66,35 +66,35 @@ module _ (c : List ℕ → ℕ) (cheap : (ws : List ℕ) (n : ℕ) → 1 ≤ n �
   size-finish F i s e g = go (ltb i F) (is-nil (g .groups)) refl
     where
       go : (x y : Bool) → is-nil (g .groups) ≡ y
-          → size c (elim (x || y) [ true ↦ tree (some i) s (e - s) (g .loose ⊕ g .groups) nil | false ↦ balance (under false (some i)) (under false (some i)) s (e - s) ((rest-closed i s g) .groups) ])
+          → size c (elim (x || y) [ true ↦ tree (some i) s (e - s) (g .loose ⊕ g .groups) nil | false ↦ balance (in-set false (some i)) (in-set false (some i)) s (e - s) ((rest-closed i s g) .groups) ])
           ≤ 2 + weight (elim x [ true ↦ none | false ↦ some i ]) g
       go true y q = size-plain none i s (e - s) g
       go false true q = size-plain (some i) i s (e - s) g
       go false false q =
-          omega (arith, weight-rest-closed (some i) i s g, size-balance c (under false (some i)) s (e - s) ((rest-closed i s g) .groups) (total-rest-closed (under false (some i)) i s g q))
+          omega (arith, weight-rest-closed (some i) i s g, size-balance c (in-set false (some i)) s (e - s) ((rest-closed i s g) .groups) (total-rest-closed (in-set false (some i)) i s g q))
 
   module _ (t : Option ℕ) where
-    one-leaf : (u : Option ℕ) (s l : ℕ) → total (under false t) (tree u s l nil nil) ≤ 1
+    one-leaf : (u : Option ℕ) (s l : ℕ) → total (in-set false t) (tree u s l nil nil) ≤ 1
     unfolding total
-    one-leaf u s l = go (same-type (under false t) u && all-of (under false t) nil)
+    one-leaf u s l = go (same-type (in-set false t) u && all-of (in-set false t) nil)
       where
-        go : (x : Bool) → elim x [ true ↦ suc (total (under false t) nil) | false ↦ 1 ] + 0 ≤ 1
+        go : (x : Bool) → elim x [ true ↦ suc (total (in-set false t) nil) | false ↦ 1 ] + 0 ≤ 1
         go true = le-refl 1
         go false = le-refl 1
 
-    leaf-weight : (u : Option ℕ) (s l : ℕ) (ts : Trees) → size c (tree u s l nil ts) + own-total (under false t) (tree u s l nil ts) ≤ 2 + (size c ts + own-total (under false t) ts)
+    leaf-weight : (u : Option ℕ) (s l : ℕ) (ts : Trees) → size c (tree u s l nil ts) + own-total (in-set false t) (tree u s l nil ts) ≤ 2 + (size c ts + own-total (in-set false t) ts)
     unfolding size own-total
-    leaf-weight u s l ts = go (same-type (under false t) u)
+    leaf-weight u s l ts = go (same-type (in-set false t) u)
       where
-        go : (x : Bool) → suc (0 + size c ts) + (elim x [ true ↦ total (under false t) (tree u s l nil nil) | false ↦ 0 ] + own-total (under false t) ts) ≤ 2 + (size c ts + own-total (under false t) ts)
+        go : (x : Bool) → suc (0 + size c ts) + (elim x [ true ↦ total (in-set false t) (tree u s l nil nil) | false ↦ 0 ] + own-total (in-set false t) ts) ≤ 2 + (size c ts + own-total (in-set false t) ts)
         go true = omega (arith, one-leaf u s l)
         go false = omega arith
 
-    part-weight : (s l : ℕ) (ws : List ℕ) (n : ℕ) (ts : Trees) → 1 ≤ n → length ws ≤ 4 * n → size c (part s l ws ts) + own-total (under false t) (part s l ws ts) ≤ n + (size c ts + own-total (under false t) ts)
+    part-weight : (s l : ℕ) (ws : List ℕ) (n : ℕ) (ts : Trees) → 1 ≤ n → length ws ≤ 4 * n → size c (part s l ws ts) + own-total (in-set false t) (part s l ws ts) ≤ n + (size c ts + own-total (in-set false t) ts)
     unfolding size own-total
     part-weight s l ws n ts pos h = omega (arith, cheap ws n pos h)
 
-    flat-weight : (rs : List Record) (ts : Trees) → size c (flat-part rs ts) + own-total (under false t) (flat-part rs ts) ≤ 2 * length rs + (size c ts + own-total (under false t) ts)
+    flat-weight : (rs : List Record) (ts : Trees) → size c (flat-part rs ts) + own-total (in-set false t) (flat-part rs ts) ≤ 2 * length rs + (size c ts + own-total (in-set false t) ts)
     unfolding flat-part
     flat-weight [] ts = omega arith
     flat-weight (rec i s e n ∷ []) ts = go (ltb 65535 (e - s))
@@ -103,7 +103,7 @@ module _ (c : List ℕ → ℕ) (cheap : (ws : List ℕ) (n : ℕ) → 1 ≤ n �
         ws = flat-words s 0 (rec i s e n ∷ [])
 
         go : (x : Bool) → size c (elim x [ true ↦ tree (some i) s (e - s) nil ts | false ↦ part s (e - s) ws ts ])
-            + own-total (under false t) (elim x [ true ↦ tree (some i) s (e - s) nil ts | false ↦ part s (e - s) ws ts ]) ≤ 2 * 1 + (size c ts + own-total (under false t) ts)
+            + own-total (in-set false t) (elim x [ true ↦ tree (some i) s (e - s) nil ts | false ↦ part s (e - s) ws ts ]) ≤ 2 * 1 + (size c ts + own-total (in-set false t) ts)
         go true = leaf-weight (some i) s (e - s) ts
         go false = omega (arith, part-weight s (e - s) ws 1 ts (omega arith) (omega (arith, length-flat-words s 0 (rec i s e n ∷ []))))
     flat-weight (rec i s e n ∷ r ∷ rs) ts =
@@ -147,7 +147,7 @@ module _ (c : List ℕ → ℕ) (cheap : (ws : List ℕ) (n : ℕ) → 1 ≤ n �
 
   module _ (F b : ℕ) where
     run-weight : (own : Option ℕ) (i s e : ℕ) (kids more : Items) (ts : Trees)
-        → size c (run-part F i s e kids more ts) + own-total (under false own) (run-part F i s e kids more ts) ≤ suc (records kids + records more) + (size c ts + own-total (under false own) ts)
+        → size c (run-part F i s e kids more ts) + own-total (in-set false own) (run-part F i s e kids more ts) ≤ suc (records kids + records more) + (size c ts + own-total (in-set false own) ts)
     unfolding run-part records
     run-weight own i s e kids more ts = part-weight own _ _ _ (suc (records kids + records more)) ts (omega arith) (run-short F _ (span i s e kids more))
 
@@ -155,7 +155,7 @@ module _ (c : List ℕ → ℕ) (cheap : (ws : List ℕ) (n : ℕ) → 1 ≤ n �
         → weight own (gather (λ ts. finish F i s e inner ⊕ ts) g) ≤ (2 + weight (repeats F i) inner) + weight own g
     weight-tree own i s e inner g h =
         weight-gather own (λ ts. finish F i s e inner ⊕ ts) g (2 + weight (repeats F i) inner)
-        (λ ts. omega (arith, size-⊕ c (finish F i s e inner) ts, own-total-⊕ (under false own) (finish F i s e inner) ts, own-finish own F i s e inner h, size-finish F i s e inner))
+        (λ ts. omega (arith, size-⊕ c (finish F i s e inner) ts, own-total-⊕ (in-set false own) (finish F i s e inner) ts, own-finish own F i s e inner h, size-finish F i s e inner))
 
     weight-walk : (its : Items) (d k : ℕ) (own : Option ℕ) (g : Gathered) → Owned F own its
         → weight own (walk F b its d k own g) ≤ 2 * records (after k its) + weight own g

@@ -10,7 +10,7 @@ use Rattle.records.specs.Forest.{Forest, behind}
 use Rattle.tree.specs.Trees.{Trees, nil, tree, part, _⊕_, last-end, is-nil}
 use Rattle.tree.specs.Items.{Items, mark, span, same, repeats, items, first}
 use Rattle.tree.specs.Pack.{run-from, run-part}
-use Rattle.tree.specs.Balance.{under, balance}
+use Rattle.tree.specs.Balance.{in-set, balance}
 use Rattle.tree.specs.Groups.{Gathered, fresh, gather, close, pass, rest-closed, finish}
 use Rattle.tree.specs.Flat.{too-deep, Record, rec, flattened, flat-words, flat-part, hold, limit, ends, flat}
 use Rattle.tree.specs.Build.{walk, first-level, build}
@@ -21,7 +21,7 @@ unfoldable pub finish-on : (none-first : Bool) (F i s e : ℕ) → Gathered → 
 finish-on none-first F i s e g =
     elim (ltb i F || is-nil (g .groups)) [
       | true ↦ tree (some i) s (e - s) (g .loose ⊕ g .groups) nil
-      | false ↦ balance (under none-first (some i)) (under none-first (some i)) s (e - s) ((rest-closed i s g) .groups)
+      | false ↦ balance (in-set none-first (some i)) (in-set none-first (some i)) s (e - s) ((rest-closed i s g) .groups)
     ]
 
 module _ (none-first : Bool) (F b : ℕ) where
@@ -91,7 +91,7 @@ free-finish : (F i s e : ℕ) (g : Gathered) → Frees g → Free (finish F i s 
 unfolding finish
 free-finish F i s e g w = go (ltb i F || is-nil (g .groups))
   where
-    go : (x : Bool) → Free (elim x [ true ↦ tree (some i) s (e - s) (g .loose ⊕ g .groups) nil | false ↦ balance (under false (some i)) (under false (some i)) s (e - s) ((rest-closed i s g) .groups) ])
+    go : (x : Bool) → Free (elim x [ true ↦ tree (some i) s (e - s) (g .loose ⊕ g .groups) nil | false ↦ balance (in-set false (some i)) (in-set false (some i)) s (e - s) ((rest-closed i s g) .groups) ])
     go true = free-tree i s (e - s) (g .loose ⊕ g .groups) nil (free-⊕ (g .loose) (g .groups) (w .loose) (w .groups)) free-nil
     go false = free-balance i s (e - s) ((rest-closed i s g) .groups) (frees-rest-closed i s g w .groups)
 
@@ -103,8 +103,8 @@ finish-either none-first F i s e g w = go (ltb i F || is-nil (g .groups))
     all = (rest-closed i s g) .groups
 
     go : (x : Bool)
-        → _≡_ {A = Trees} (elim x [ true ↦ tree (some i) s (e - s) (g .loose ⊕ g .groups) nil | false ↦ balance (under none-first (some i)) (under none-first (some i)) s (e - s) all ])
-        (elim x [ true ↦ tree (some i) s (e - s) (g .loose ⊕ g .groups) nil | false ↦ balance (under false (some i)) (under false (some i)) s (e - s) all ])
+        → _≡_ {A = Trees} (elim x [ true ↦ tree (some i) s (e - s) (g .loose ⊕ g .groups) nil | false ↦ balance (in-set none-first (some i)) (in-set none-first (some i)) s (e - s) all ])
+        (elim x [ true ↦ tree (some i) s (e - s) (g .loose ⊕ g .groups) nil | false ↦ balance (in-set false (some i)) (in-set false (some i)) s (e - s) all ])
     go true = refl
     go false = balance-either none-first i s (e - s) all (frees-rest-closed i s g w .groups)
 

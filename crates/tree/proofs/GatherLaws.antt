@@ -10,7 +10,7 @@ use lib.Dec.{T, ltb, leb}
 use Rattle.records.specs.Forest.{line, depth-below}
 use Rattle.tree.specs.Trees.{Trees, nil, tree, part, _⊕_, is-nil}
 use Rattle.tree.specs.Listing.{node-line, node-below}
-use Rattle.tree.specs.Balance.{under, balance}
+use Rattle.tree.specs.Balance.{in-set, balance}
 use Rattle.tree.specs.Groups.{Gathered, fresh, gather, close, pass, rest-closed, finish}
 use Rattle.tree.proofs.ListingLaws.{view, view-⊕, view-nil, view-tree}
 use Rattle.tree.proofs.PackLaws.{line-repeat, below-repeat}
@@ -67,7 +67,7 @@ module _ (F d : ℕ) where
           rw (view-tree F d (some i) s (e - s) (g .loose ⊕ g .groups) nil, end, view-⊕, view-nil) (append-nil _)
 
       go : (x y : Bool) → ltb i F ≡ x
-          → view F d (elim (x || y) [ true ↦ tree (some i) s (e - s) (g .loose ⊕ g .groups) nil | false ↦ balance (under false (some i)) (under false (some i)) s (e - s) ((rest-closed i s g) .groups) ])
+          → view F d (elim (x || y) [ true ↦ tree (some i) s (e - s) (g .loose ⊕ g .groups) nil | false ↦ balance (in-set false (some i)) (in-set false (some i)) s (e - s) ((rest-closed i s g) .groups) ])
           ≡ line F d i s e ++ gview F (depth-below F d i) g
       go true y x = plain
       go false true x = plain

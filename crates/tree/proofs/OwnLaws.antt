@@ -11,7 +11,7 @@ use Rattle.records.specs.Forest.{Forest, empty, add, count}
 use Rattle.records.proofs.ParseLaws.{and-left}
 use Rattle.tree.specs.Trees.{Trees, nil, tree, part, _⊕_, is-nil}
 use Rattle.tree.specs.Items.{Items, mark, span, same, repeats, items}
-use Rattle.tree.specs.Balance.{SetType, under, equal-types, same-type, all-of, total, lone, is-tree, joined, balance}
+use Rattle.tree.specs.Balance.{SetType, in-set, equal-types, same-type, all-of, total, lone, is-tree, joined, balance}
 use Rattle.tree.specs.Groups.{Gathered, close, rest-closed, finish}
 use Rattle.tree.proofs.BalanceLaws.{total-pos-tree, total-pos-part}
 use Rattle.tree.proofs.FuelLaws.{total-⊕}
@@ -90,28 +90,28 @@ own-tree own u s l kids h = go (same-type own u) h
     go true h = absurd (true≢false h)
     go false h = refl
 
-own-alone : (own : Option ℕ) (i s l : ℕ) (ts : Trees) → same own i ≡ false → So (is-tree (under false (some i)) s l ts) → own-total (under false own) ts ≡ 0
+own-alone : (own : Option ℕ) (i s l : ℕ) (ts : Trees) → same own i ≡ false → So (is-tree (in-set false (some i)) s l ts) → own-total (in-set false own) ts ≡ 0
 unfolding is-tree lone
 own-alone own i s l nil h e = absurd e
-own-alone own i s l (tree u s′ l′ kids nil) h e = own-tree (under false own) u s′ l′ kids (other-type own i u h (and-left (equal-types (some i) u) (eqb s s′ && eqb l l′) e))
+own-alone own i s l (tree u s′ l′ kids nil) h e = own-tree (in-set false own) u s′ l′ kids (other-type own i u h (and-left (equal-types (some i) u) (eqb s s′ && eqb l l′) e))
 own-alone own i s l (tree u s′ l′ kids (tree u″ s″ l″ kids″ rest)) h e = absurd e
 own-alone own i s l (tree u s′ l′ kids (part s″ l″ ws rest)) h e = absurd e
 own-alone own i s l (part s′ l′ ws rest) h e = absurd e
 
-own-joined : (own : Option ℕ) (i s l : ℕ) (kids : Trees) → same own i ≡ false → own-total (under false own) (joined (under false (some i)) s l kids) ≡ 0
+own-joined : (own : Option ℕ) (i s l : ℕ) (kids : Trees) → same own i ≡ false → own-total (in-set false own) (joined (in-set false (some i)) s l kids) ≡ 0
 unfolding joined
-own-joined own i s l kids h = go (is-tree (under false (some i)) s l kids) refl
+own-joined own i s l kids h = go (is-tree (in-set false (some i)) s l kids) refl
   where
-    go : (x : Bool) → is-tree (under false (some i)) s l kids ≡ x → own-total (under false own) (elim x [ true ↦ kids | false ↦ tree (some i) s l kids nil ]) ≡ 0
+    go : (x : Bool) → is-tree (in-set false (some i)) s l kids ≡ x → own-total (in-set false own) (elim x [ true ↦ kids | false ↦ tree (some i) s l kids nil ]) ≡ 0
     go true e = own-alone own i s l kids h (subst So (sym e) tt)
-    go false e = own-tree (under false own) (some i) s l kids (same-some own i ∙ h)
+    go false e = own-tree (in-set false own) (some i) s l kids (same-some own i ∙ h)
 
-pub own-finish : (own : Option ℕ) (F i s e : ℕ) (g : Gathered) → same own i ≡ false → own-total (under false own) (finish F i s e g) ≡ 0
+pub own-finish : (own : Option ℕ) (F i s e : ℕ) (g : Gathered) → same own i ≡ false → own-total (in-set false own) (finish F i s e g) ≡ 0
 unfolding finish balance
 own-finish own F i s e g h = go (ltb i F || is-nil (g .groups))
   where
-    go : (x : Bool) → own-total (under false own) (elim x [ true ↦ tree (some i) s (e - s) (g .loose ⊕ g .groups) nil | false ↦ balance (under false (some i)) (under false (some i)) s (e - s) ((rest-closed i s g) .groups) ]) ≡ 0
-    go true = own-tree (under false own) (some i) s (e - s) (g .loose ⊕ g .groups) (same-some own i ∙ h)
+    go : (x : Bool) → own-total (in-set false own) (elim x [ true ↦ tree (some i) s (e - s) (g .loose ⊕ g .groups) nil | false ↦ balance (in-set false (some i)) (in-set false (some i)) s (e - s) ((rest-closed i s g) .groups) ]) ≡ 0
+    go true = own-tree (in-set false own) (some i) s (e - s) (g .loose ⊕ g .groups) (same-some own i ∙ h)
     go false = own-joined own i s (e - s) _ h
 
 -- marks have the parent's own repeat id, and spans have not

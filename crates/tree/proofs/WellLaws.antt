@@ -8,7 +8,7 @@ use native.Mathlib.Omega.{arith}
 use native.Mathlib.Nat.{le-refl}
 use lib.Dec.{ltb, leb}
 use Rattle.tree.specs.Trees.{Trees, nil, tree, part, _⊕_, kids-of, first-start, last-end, is-nil}
-use Rattle.tree.specs.Balance.{SetType, under, total, share, groups, lone, is-tree, joined, placed, each, divide, balance}
+use Rattle.tree.specs.Balance.{SetType, in-set, total, share, groups, lone, is-tree, joined, placed, each, divide, balance}
 use Rattle.tree.specs.Groups.{Gathered, fresh, gather, close, pass, rest-closed, finish}
 use Rattle.tree.proofs.BalanceLaws.{each-groups}
 use Rattle.tree.specs.Well.{Known, Well, Gathers}
@@ -188,8 +188,8 @@ module _ (T : ℕ) (Inside : ℕ → ℕ → List ℕ → Type 0) where
       both : W s e (g .loose ⊕ g .groups)
       both = well-⊕ s (g .edge) e (g .loose) (g .groups) (w .loose) (w .groups)
 
-      go : (x : Bool) → W s e (elim x [ true ↦ tree (some i) s (e - s) (g .loose ⊕ g .groups) nil | false ↦ balance (under false (some i)) (under false (some i)) s (e - s) ((rest-closed i s g) .groups) ])
+      go : (x : Bool) → W s e (elim x [ true ↦ tree (some i) s (e - s) (g .loose ⊕ g .groups) nil | false ↦ balance (in-set false (some i)) (in-set false (some i)) s (e - s) ((rest-closed i s g) .groups) ])
       go true =
           let end : s + (e - s) ≡ e = omega arith in
           record { known = k; starts = le-refl s; inner = rw end both; rest = rw end (le-refl e) }
-      go false = well-balance (under false (some i)) k s e ((rest-closed i s g) .groups) (well-rest-closed i s e g k w)
+      go false = well-balance (in-set false (some i)) k s e ((rest-closed i s g) .groups) (well-rest-closed i s e g k w)

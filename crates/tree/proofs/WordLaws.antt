@@ -11,7 +11,7 @@ use Rattle.records.specs.Forest.{Forest, count, behind}
 use Rattle.tree.specs.Trees.{Trees, nil, tree, part, _⊕_, is-nil}
 use Rattle.tree.specs.Items.{Items, mark, span, same, repeats, items, records, first}
 use Rattle.tree.specs.Pack.{run-from, run-part}
-use Rattle.tree.specs.Balance.{SetType, under, balance}
+use Rattle.tree.specs.Balance.{SetType, in-set, balance}
 use Rattle.tree.specs.Groups.{Gathered, fresh, gather, close, pass, rest-closed, finish}
 use Rattle.tree.specs.Flat.{too-deep, Record, rec, flattened, flat-words, held-end, flat-part, hold, limit, ends, flat}
 use Rattle.tree.specs.Build.{walk, first-level, build}
@@ -85,9 +85,9 @@ words-finish : (F i s e : ℕ) (g : Gathered) → held-words (finish F i s e g) 
 unfolding finish all-words
 words-finish F i s e g = go (ltb i F || is-nil (g .groups))
   where
-    go : (x : Bool) → held-words (elim x [ true ↦ tree (some i) s (e - s) (g .loose ⊕ g .groups) nil | false ↦ balance (under false (some i)) (under false (some i)) s (e - s) ((rest-closed i s g) .groups) ]) ≤ all-words g
+    go : (x : Bool) → held-words (elim x [ true ↦ tree (some i) s (e - s) (g .loose ⊕ g .groups) nil | false ↦ balance (in-set false (some i)) (in-set false (some i)) s (e - s) ((rest-closed i s g) .groups) ]) ≤ all-words g
     go true = omega (arith, held-tree (some i) s (e - s) (g .loose ⊕ g .groups) nil, held-nil, held-⊕ (g .loose) (g .groups))
-    go false = omega (arith, words-rest-closed i s g, words-balance (under false (some i)) s (e - s) ((rest-closed i s g) .groups))
+    go false = omega (arith, words-rest-closed i s g, words-balance (in-set false (some i)) s (e - s) ((rest-closed i s g) .groups))
 
 -- a child in front
 words-gather : (f : Trees → Trees) (g : Gathered) (n : ℕ) → ((ts : Trees) → held-words (f ts) ≤ n + held-words ts) → all-words (gather f g) ≤ n + all-words g

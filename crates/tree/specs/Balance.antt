@@ -11,8 +11,8 @@ pub record SetType : Type 0 where
   pub none-first : Bool
   pub type : Option ℕ
 
-abbrev pub under : (none-first : Bool) (type : Option ℕ) → SetType
-under f t = record { none-first = f; type = t }
+abbrev pub in-set : (none-first : Bool) (type : Option ℕ) → SetType
+in-set f t = record { none-first = f; type = t }
 
 -- The type that a tree counts as under a set: kind 3 is none; id 0 is none where place 0 of the set is; any other is its id.
 abbrev pub type-under : (none-first : Bool) → Option ℕ → Option ℕ
@@ -121,5 +121,5 @@ balance top t s l ts = joined top s l (divide (suc (total t ts)) t (share (total
 unfoldable pub balanced : (none-first : Bool) → Trees → Trees
 balanced f nil = nil
 balanced f (tree t s l kids rest) =
-    elim (leb (siblings kids) 8) [ true ↦ tree t s l kids rest | false ↦ balance (under f t) (under f none) s l kids ⊕ rest ]
+    elim (leb (siblings kids) 8) [ true ↦ tree t s l kids rest | false ↦ balance (in-set f t) (in-set f none) s l kids ⊕ rest ]
 balanced f (part s l ws rest) = part s l ws rest

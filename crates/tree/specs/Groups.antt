@@ -4,7 +4,7 @@ use mathlib.Core.Option.{some}
 use Prim.Native.Nat.{ℕ, _+_, _-_}
 use lib.Dec.{ltb, leb}
 use Rattle.tree.specs.Trees.{Trees, nil, tree, _⊕_, is-nil}
-use Rattle.tree.specs.Balance.{under, balance}
+use Rattle.tree.specs.Balance.{in-set, balance}
 
 -- the groups made, the children since then, and the last group end, each in order
 pub record Gathered : Type 0 where
@@ -39,5 +39,5 @@ unfoldable pub finish : (F i s e : ℕ) → Gathered → Trees
 finish F i s e g =
     elim (ltb i F || is-nil (g .groups)) [
       | true ↦ tree (some i) s (e - s) (g .loose ⊕ g .groups) nil
-      | false ↦ balance (under false (some i)) (under false (some i)) s (e - s) ((rest-closed i s g) .groups)
+      | false ↦ balance (in-set false (some i)) (in-set false (some i)) s (e - s) ((rest-closed i s g) .groups)
     ]

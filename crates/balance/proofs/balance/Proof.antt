@@ -4,7 +4,7 @@ use Rattle.rules.specs.Calls.{items}
 use Rattle.balance.proofs.Calling.{refuses-types, refuses-work, lent, refuses-cell, refuses-many, ready, settles}
 use Rattle.words.specs.Answer.{place-found}
 use Prim.Native.Nat.{ℕ, _+_, _*_, _≤_}
-use mathlib.Core.Bool.{true, false}
+use mathlib.Core.Bool.{Bool, true, false}
 use mathlib.Core.List.{List}
 use mathlib.Core.Option.{none}
 use mathlib.Core.Path.{_≡_, sym, ap, _∙_}
@@ -20,6 +20,9 @@ use Rattle.balance.proofs.balance.Tie as tie
 module _ (z : tie.Start) where
   abbrev types : ℕ
   types = z .args .types
+
+  abbrev none-first : Bool
+  none-first = z .args .none-first
 
   abbrev cs : List ℕ
   cs = now (z .args .cells)
@@ -50,7 +53,7 @@ module _ (e : tie.Else2) where
   enough-work = sym (e .before .too-little-work .ensures) ∙ e .if2 .left
 
   work-lent : 96 * items (cs given₂) (ws given₂) + 96 ≤ work given₂
-  work-lent = lent (types given₂) (cs given₂) (ws given₂) (work given₂) (out given₂) (packed given₂) (few-types (e .before .before .before)) enough-work
+  work-lent = lent (types given₂) (none-first given₂) (cs given₂) (ws given₂) (work given₂) (out given₂) (packed given₂) (few-types (e .before .before .before)) enough-work
 
 -- past 15
 module _ (e : tie.After-enum-told) where
@@ -69,13 +72,13 @@ module _ (e : tie.After-enum-told) where
 returns : tie.Need-returns
 returns c =
     let z = c .before .before .before .before .before .before in
-    refuses-types (types z) (cs z) (ws z) (work z) (out z) (packed z) (c .if1 .taken)
+    refuses-types (types z) (none-first z) (cs z) (ws z) (work z) (out z) (packed z) (c .if1 .taken)
 
 returns-2 : tie.Need-returns-2
 returns-2 c =
     let z = c .before .before .before .before .before .before .before .before .before in
     let little = sym (c .before .too-little-work .ensures) ∙ c .if2 .taken in
-    refuses-work (types z) (cs z) (ws z) (work z) (out z) (packed z) (few-types (c .before .before .before)) little
+    refuses-work (types z) (none-first z) (cs z) (ws z) (work z) (out z) (packed z) (few-types (c .before .before .before)) little
 
 tree-check-requires : tie.Need-tree-check-requires
 tree-check-requires c κs = (few-types (c .before .before .before .before), work-lent (c .before))
@@ -86,13 +89,13 @@ returns-3 c =
     let fault = sym (c .before .before .before .before .before .tree-check .ensures) ∙ ap place-found (told .1) in
     let e = c .before .before .before .before .before .before .before in
     let z = given₂ e in
-    refuses-cell (types z) (cs z) (ws z) (work z) (out z) (packed z) (few-types (e .before .before .before)) (enough-work e) (told .0 .0) fault
+    refuses-cell (types z) (none-first z) (cs z) (ws z) (work z) (out z) (packed z) (few-types (e .before .before .before)) (enough-work e) (told .0 .0) fault
 
 returns-4 : tie.Need-returns-4
 returns-4 c =
     let e = c .before in
     let z = given e in
-    refuses-many (types z) (cs z) (ws z) (work z) (out z) (packed z) (few-types (past-1 e)) (enough-work (past-11 e)) (no-fault e)
+    refuses-many (types z) (none-first z) (cs z) (ws z) (work z) (out z) (packed z) (few-types (past-1 e)) (enough-work (past-11 e)) (no-fault e)
     (omega (arith, c .if3 .taken))
 
 balance-accepted-requires : tie.Need-balance-accepted-requires
@@ -100,7 +103,7 @@ balance-accepted-requires c κs =
     let e = c .before .before .before .before in
     let z = given e in
     let checked = e .before .before .before .before .tree-check in
-    ready (types z) (cs z) (ws z) (work z) (out z) (packed z) (few-types (past-1 e)) (enough-work (past-11 e)) (no-fault e)
+    ready (types z) (none-first z) (cs z) (ws z) (work z) (out z) (packed z) (few-types (past-1 e)) (enough-work (past-11 e)) (no-fault e)
     (omega (arith, c .before .before .before .if3 .left)) (length (checked .last .1 .1 .1 .1 .1 .0)) (checked .kept .1 .1 .1 .1 .1 .0)
     (λ j. omega (arith, e .before .before .before .before .before .before .before .before .before .before .before .before .before .shared-slice-known2 .given j))
 
@@ -109,7 +112,7 @@ returns-5 c =
     let few = c .before .before .before .before .before .before .before .before .before .before in
     let e = few .before in
     let z = given e in
-    settles (types z) (cs z) (ws z) (work z) (out z) (packed z) (few-types (past-1 e)) (enough-work (past-11 e)) (no-fault e)
+    settles (types z) (none-first z) (cs z) (ws z) (work z) (out z) (packed z) (few-types (past-1 e)) (enough-work (past-11 e)) (no-fault e)
     (omega (arith, few .if3 .left)) _ (c .before .before .before .before .before .before .balance-accepted .ensures)
 
 pub balance-spec : {M : Type 1} → statement M

@@ -1,6 +1,7 @@
 -- `balance::balance_accepted` meets its contract: each step leaves what the next one asks. Assumes nothing.
 use Prim.Native.Nat.{ℕ, _+_, _*_, _/_, _≤_}
 use mathlib.Core.Path.{_≡_, refl}
+use mathlib.Core.Bool.{Bool}
 use mathlib.Core.List.{List}
 use Rattle.rules.specs.Calls.{handed-in}
 use Rattle.tree.specs.Balance.{balanced}
@@ -48,6 +49,9 @@ module _ (c : tie.After-push-cells-arg) where
   abbrev words : List ℕ
   words = now (c .before .before .before .before .before .before .before .before .before .before .before .before .before .before .args .words)
 
+  abbrev none-first : Bool
+  none-first = c .before .before .before .before .before .before .before .before .before .before .before .before .before .before .args .none-first
+
   abbrev low : ℕ
   low = c .before .before .before .before .before .before .before .stage-words .result
 
@@ -57,9 +61,9 @@ module _ (c : tie.After-push-cells-arg) where
   deep : low ≤ length (c .before .before .before .before .before .before .before .stage-words .last .1 .0)
   deep = omega (arith, room .0, c .before .before .before .before .before .before .before .before .before .before .before .before .before .before .pre .lent, items-are cells words, c .before .before .before .before .before .before .before .stage-words .kept .1 .0)
 
-  started : Building (c .before .before .before .note-bases .last .1 .0) cells words (length cells / cell-width) (length cells / cell-width * 11) low (length cells / cell-width)
+  started : Building none-first (c .before .before .before .note-bases .last .1 .0) cells words (length cells / cell-width) (length cells / cell-width * 11) low (length cells / cell-width)
   started =
-      building-start (c .before .before .before .before .before .before .before .stage-words .last .1 .0) (c .before .before .before .note-bases .last .1 .0) cells words (length cells / cell-width) (length cells / cell-width * 11) low
+      building-start none-first (c .before .before .before .before .before .before .before .stage-words .last .1 .0) (c .before .before .before .note-bases .last .1 .0) cells words (length cells / cell-width) (length cells / cell-width * 11) low
       (c .before .before .before .before .before .before .before .before .before .before .before .before .before .before .pre .given) (c .before .before .before .before .before .before .before .stage-words .ensures .0) (c .before .before .before .note-bases .ensures .0 words (c .before .before .before .before .before .before .before .before .before .before .before .before .before .before .pre .given)) (c .before .before .before .note-bases .ensures .1) refl
       (omega (arith, room .0, room .1)) deep (omega (arith, room .0, room .1))
 
@@ -74,12 +78,12 @@ rebuild-requires c κs =
 write-out-requires : tie.Need-write-out-requires
 write-out-requires c κs =
     let z = c .before .before .before .before .before .before .before .before .before .before in
-    (balanced (handed-in (cells z) (words z)), c .before .before .before .before .before .rebuild .ensures (words z) (c .before .before .before .before .before .before .before .before .before .push-cells .ensures (words z) (started z)))
+    (balanced (none-first z) (handed-in (cells z) (words z)), c .before .before .before .before .before .rebuild .ensures (words z) (c .before .before .before .before .before .before .before .before .before .push-cells .ensures (words z) (started z)))
 
 returns : tie.Need-returns
 returns c =
     let z = c .before .before .before .before .before .before .before .before .before .before .before .before .before .before .before .before .before in
-    c .before .before .before .before .before .before .write-out .ensures (balanced (handed-in (cells z) (words z))) (c .before .before .before .before .before .before .before .before .before .before .before .before .rebuild .ensures (words z) (c .before .before .before .before .before .before .before .before .before .before .before .before .before .before .before .before .push-cells .ensures (words z) (started z)))
+    c .before .before .before .before .before .before .write-out .ensures (balanced (none-first z) (handed-in (cells z) (words z))) (c .before .before .before .before .before .before .before .before .before .before .before .before .rebuild .ensures (words z) (c .before .before .before .before .before .before .before .before .before .before .before .before .before .before .before .before .push-cells .ensures (words z) (started z)))
 
 pub balance-accepted-spec : {M : Type 1} → statement M
 balance-accepted-spec =

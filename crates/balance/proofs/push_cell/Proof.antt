@@ -40,29 +40,29 @@ module _ (z : tie.Start) where
   abbrev in-cells : i < n
   in-cells = z .pre .0
 
-  abbrev building : Building held cs ws n high low (i + 1)
+  abbrev building : Building (z .args .none-first) held cs ws n high low (i + 1)
   building = z .pre .1 .1
 
   start-small : getD held i 0 + cell-position cs i ≤ 4294967295
-  start-small = start-fits held cs ws n high low i in-cells building
+  start-small = start-fits (z .args .none-first) held cs ws n high low i in-cells building
 
   next-named : cell-next cs i ≤ n
-  next-named = next-in held cs ws n high low i in-cells building
+  next-named = next-in (z .args .none-first) held cs ws n high low i in-cells building
 
   next-small : cell-next cs i * 10 ≤ high
   next-small = omega (arith, next-named, building .high-is)
 
   readable : (x : ℕ) → x ≤ n → Readable held (address high x)
-  readable = address-readable held cs ws n high low i in-cells building
+  readable = address-readable (z .args .none-first) held cs ws n high low i in-cells building
 
   room : high - (i + 1) * 10 + 10 ≤ length held
   room = omega (arith, in-cells, building .high-is, building .under, building .inside)
 
   words-small : cell-kind cs i ≡ 2 → low + cell-first cs i ≤ 4294967295
-  words-small = words-fit held cs ws n high low i in-cells building
+  words-small = words-fit (z .args .none-first) held cs ws n high low i in-cells building
 
   first-named : (cell-kind cs i ≡ 2 → ⊥) → cell-first cs i ≤ n
-  first-named = first-in held cs ws n high low i in-cells building
+  first-named = first-in (z .args .none-first) held cs ws n high low i in-cells building
 
 add-start-2 : tie.Need-add-start-2
 add-start-2 c = omega (arith, start-small (c .before .before .before .before))
@@ -86,7 +86,7 @@ returns c =
     let next = c .before .before .before .before .before .before .before .before .before in
     let pushed = c .before .before in
     let is-part = simp add-zero at (c .before .before .before .before .before .before .before .if1 .taken) in
-    λ ws b. pushed-part (held z) (cs z) ws (n z) (high z) (low z) (i z) (in-cells z) b (pushed .push-part .last .0) (high z - (i z + 1) * 10)
+    λ ws b. pushed-part (z .args .none-first) (held z) (cs z) ws (n z) (high z) (low z) (i z) (in-cells z) b (pushed .push-part .last .0) (high z - (i z + 1) * 10)
     (getD (held z) (i z) 0 + getD (cs z) (i z * cell-width + position-place) 0) (pushed .push-part .result) refl refl (next .node-of .result) (next .node-of .ensures)
     is-part (low z + getD (cs z) (i z * cell-width + first-place) 0) refl (pushed .push-part .ensures)
 
@@ -96,8 +96,8 @@ node-of-requires-2 c κs =
     let no-part = simp add-zero at (c .before .if1 .left) in
     omega (arith, first-named z no-part, building z .high-is)
 
-push-tree-requires : tie.Need-push-tree-requires
-push-tree-requires c κs =
+push-typed-requires : tie.Need-push-typed-requires
+push-typed-requires c κs =
     let z = c .before .before .before .before .before .before .before .before .before .before .before .before .before .before in
     let no-part = simp add-zero at (c .before .before .before .before .before .before .if1 .left) in (
       room z,
@@ -114,9 +114,9 @@ returns-2 c =
     let first = c .before .before .before .before .before .before .before in
     let pushed = c .before .before in
     let no-part = simp add-zero at (c .before .before .before .before .before .before .before .before .before .if1 .left) in
-    λ ws b. pushed-tree (held z) (cs z) ws (n z) (high z) (low z) (i z) (in-cells z) b (pushed .push-tree .last .0) (high z - (i z + 1) * 10)
-    (getD (held z) (i z) 0 + getD (cs z) (i z * cell-width + position-place) 0) (pushed .push-tree .result) refl refl (next .node-of .result) (next .node-of .ensures)
-    no-part (first .node-of2 .result) (first .node-of2 .ensures) (simp add-zero at (pushed .push-tree .ensures))
+    λ ws b. pushed-tree (z .args .none-first) (held z) (cs z) ws (n z) (high z) (low z) (i z) (in-cells z) b (pushed .push-typed .last .1 .0) (high z - (i z + 1) * 10)
+    (getD (held z) (i z) 0 + getD (cs z) (i z * cell-width + position-place) 0) (pushed .push-typed .result) refl refl (next .node-of .result) (next .node-of .ensures)
+    no-part (first .node-of2 .result) (first .node-of2 .ensures) (simp add-zero at (pushed .push-typed .ensures))
 
 pub push-cell-spec : {M : Type 1} → statement M
 push-cell-spec =
@@ -175,6 +175,6 @@ push-cell-spec =
     (λ c. search needs)
     (λ c. search needs)
     (λ c. search needs)
-    push-tree-requires
+    push-typed-requires
     (λ c. search needs)
     returns-2)

@@ -32,20 +32,20 @@ module _ (z : tie.Start) where
   abbrev low : ℕ
   low = z .args .low
 
-  abbrev building : Building held cs ws n high low 0
+  abbrev building : Building (z .args .none-first) held cs ws n high low 0
   building = z .pre .0 .1
 
   abbrev room : n * 35 ≤ low
   room = z .pre .1
 
   top-inside : 7 ≤ length cs
-  top-inside = cells-inside held cs ws n high low building room
+  top-inside = cells-inside (z .args .none-first) held cs ws n high low building room
 
   node-inside : 10 ≤ high
-  node-inside = ten held cs ws n high low building room
+  node-inside = ten (z .args .none-first) held cs ws n high low building room
 
   first-small : getD cs 4 0 * 10 ≤ high
-  first-small = omega (arith, first-in held cs ws n high low building room, building .high-is)
+  first-small = omega (arith, first-in (z .args .none-first) held cs ws n high low building room, building .high-is)
 
 -- there are more than 8 children, and the first one's node is known
 module _ (k : tie.After-node-of) where
@@ -64,13 +64,13 @@ module _ (k : tie.After-node-of) where
 shared-slice-read-count : tie.Need-shared-slice-read-count
 shared-slice-read-count c = omega (arith, top-inside (c .before .before .before))
 
-sub-t12 : tie.Need-sub-t12
-sub-t12 c = omega (arith, node-inside (c .before .before .before .before))
+sub-t13 : tie.Need-sub-t13
+sub-t13 c = omega (arith, node-inside (c .before .before .before .before))
 
 returns : tie.Need-returns
 returns c =
     let z = c .before .before .before .before in
-    λ ws b. left-standing (held z) (cs z) ws (n z) (high z) (low z) b (room z) (omega (arith, c .if1 .taken))
+    λ ws b. left-standing (z .args .none-first) (held z) (cs z) ws (n z) (high z) (low z) b (room z) (omega (arith, c .if1 .taken))
 
 shared-slice-read-node-of : tie.Need-shared-slice-read-node-of
 shared-slice-read-node-of c = omega (arith, top-inside (c .before .before .before .before .before))
@@ -82,31 +82,40 @@ row-size-requires : tie.Need-row-size-requires
 row-size-requires c κs =
     let k = c .before in
     let z = given k in
-    (row-there (held z) (cs z) (ws z) (n z) (high z) (low z) (building z) (room z) (many k) (kids k) (kids-is k), omega (arith, many k))
+    (row-there (z .args .none-first) (held z) (cs z) (ws z) (n z) (high z) (low z) (building z) (room z) (many k) (kids k) (kids-is k), omega (arith, many k))
 
-shared-slice-read-t10 : tie.Need-shared-slice-read-t10
-shared-slice-read-t10 c = omega (arith, top-inside (c .before .before .before .before .before .before .before .before .before))
+shared-slice-read-stored-kind : tie.Need-shared-slice-read-stored-kind
+shared-slice-read-stored-kind c = omega (arith, top-inside (given (c .before .before .before)))
 
-shared-slice-read-t18 : tie.Need-shared-slice-read-t18
-shared-slice-read-t18 c = omega (arith, top-inside (c .before .before .before .before .before .before .before .before .before .before))
+shared-slice-read-stored-id : tie.Need-shared-slice-read-stored-id
+shared-slice-read-stored-id c = omega (arith, top-inside (given (c .before .before .before .before .before)))
+
+shared-slice-read-t23 : tie.Need-shared-slice-read-t23
+shared-slice-read-t23 c = omega (arith, top-inside (given (c .before .before .before .before .before .before .before)))
 
 balance-range-requires : tie.Need-balance-range-requires
 balance-range-requires c κs =
-    let row = c .before .before .before .row-size in
-    let k = c .before .before .before .before .before in
-    let z = given k in
-    let size-is = row-total (held z) (cs z) (ws z) (n z) (high z) (low z) (building z) (room z) (many k) (kids k) (kids-is k) (row .result) (row .ensures) in
-    range-ready (held z) (cs z) (ws z) (n z) (high z) (low z) (building z) (room z) (many k) (kids k) (kids-is k) (row .result) size-is
-
-returns-2 : tie.Need-returns-2
-returns-2 c =
+    let own-id = c .before .before .stored-id in
+    let own-kind = c .before .before .before .before .stored-kind in
     let row = c .before .before .before .before .before .before .row-size in
     let k = c .before .before .before .before .before .before .before .before in
     let z = given k in
+    let size-is = row-total (z .args .none-first) (held z) (cs z) (ws z) (n z) (high z) (low z) (building z) (room z) (many k) (kids k) (kids-is k) (row .result) (row .ensures) in
+    range-ready (z .args .none-first) (held z) (cs z) (ws z) (n z) (high z) (low z) (building z) (room z) (many k) (kids k) (kids-is k)
+    (row .result) (own-kind .result) (own-id .result) size-is (own-kind .ensures) (own-id .ensures)
+
+returns-2 : tie.Need-returns-2
+returns-2 c =
     let made = c .before .before .balance-range in
+    let own-id = c .before .before .before .before .before .stored-id in
+    let own-kind = c .before .before .before .before .before .before .before .stored-kind in
+    let row = c .before .before .before .before .before .before .before .before .before .row-size in
+    let k = c .before .before .before .before .before .before .before .before .before .before .before in
+    let z = given k in
     λ ws b.
-    let size-is = row-total (held z) (cs z) ws (n z) (high z) (low z) b (room z) (many k) (kids k) (kids-is k) (row .result) (row .ensures) in
-    divided-standing (held z) (cs z) ws (n z) (high z) (low z) b (room z) (many k) (kids k) (kids-is k) (row .result) size-is
+    let size-is = row-total (z .args .none-first) (held z) (cs z) ws (n z) (high z) (low z) b (room z) (many k) (kids k) (kids-is k) (row .result) (row .ensures) in
+    divided-standing (z .args .none-first) (held z) (cs z) ws (n z) (high z) (low z) b (room z) (many k) (kids k) (kids-is k)
+    (row .result) (own-kind .result) (own-id .result) size-is (own-kind .ensures) (own-id .ensures)
     (made .last .0) (made .result .top) (made .result .node) (made .ensures)
 
 pub rebuild-spec : {M : Type 1} → statement M
@@ -114,13 +123,16 @@ rebuild-spec =
     tie.close
     (tie.spec
     shared-slice-read-count
-    sub-t12
+    sub-t13
     returns
     shared-slice-read-node-of
     node-of-requires
     row-size-requires
-    shared-slice-read-t10
-    shared-slice-read-t18
+    shared-slice-read-stored-kind
+    (λ c κs. search needs)
+    shared-slice-read-stored-id
+    (λ c κs. search needs)
+    shared-slice-read-t23
     balance-range-requires
     (λ c. search needs)
     returns-2)
