@@ -11,7 +11,7 @@ ghost use Rattle.part.specs.Part.{part-check};
 ghost use Rattle.slicing.specs.Slice.{slice-part};
 ghost use Rattle.search.specs.Search.{search-part};
 ghost use Rattle.gateway.specs.Told.{as-word, laid, told, told-result};
-ghost use Rattle.gateway.specs.Given.{given-as};
+ghost use Rattle.gateway.specs.Given.{given-as, flag-as};
 
 // A number as a word of `info`.
 fn word(n: usize) -> u32
@@ -148,10 +148,18 @@ pub extern "C" fn hulwyth_materialise(
     }
 }
 
-// The call balance of document 01; the counts are cells and words.
+// 0 says no, any other number yes.
+fn flag(number: u32) -> bool
+    ensures { λ r. ⌜ r ≡ flag-as number ⌝ }
+{
+    number != 0
+}
+
+// The call balance of document 01, with whether place 0 of the set is none; the counts are cells and words.
 #[no_mangle]
 pub extern "C" fn hulwyth_balance(
     types: u32,
+    none_first: u32,
     cells: &[u32],
     words: &[u16],
     work: &mut [u32],
@@ -159,9 +167,9 @@ pub extern "C" fn hulwyth_balance(
     packed: &mut [u16],
     info: &mut [u32],
 ) -> u32
-    ensures { λ r. ⌜ record { number = r; info = now (info .exit); outputs = now (out .exit) ∷ now (packed .exit) ∷ [] } ≡ told-result 2 (balance-call types (now (cells .entry)) (now (words .entry)) (length (now (work .entry))) (now (out .entry)) (now (packed .entry))) (now (info .entry)) ⌝ }
+    ensures { λ r. ⌜ record { number = r; info = now (info .exit); outputs = now (out .exit) ∷ now (packed .exit) ∷ [] } ≡ told-result 2 (balance-call types (flag-as «none_first») (now (cells .entry)) (now (words .entry)) (length (now (work .entry))) (now (out .entry)) (now (packed .entry))) (now (info .entry)) ⌝ }
 {
-    let answer = balance::balance(types, cells, words, work, out, packed);
+    let answer = balance::balance(types, flag(none_first), cells, words, work, out, packed);
     match answer {
         balance::Balanced::Cells(count, second) => {
             tell(info, &[0, count, second]);

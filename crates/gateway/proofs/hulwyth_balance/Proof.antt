@@ -7,6 +7,7 @@ use Rattle.balance.specs.declared.Balanced.{Balanced}
 use Rattle.rules.specs.Calls.{balance-call}
 use denote.Ref.{now}
 use lib.ListN.{length}
+use Rattle.gateway.specs.Given.{flag-as}
 use Rattle.gateway.proofs.Telling.{told-result-as}
 use borrow.Author.Needs.{needs}
 use Rattle.gateway.proofs.hulwyth_balance.Statement.{statement}
@@ -15,10 +16,10 @@ use Rattle.gateway.proofs.hulwyth_balance.Tie as tie
 -- the answer with the outputs beside it is the result of the definition
 module _ (a : tie.After-balance) where
   abbrev s₁ : tie.Start
-  s₁ = a .before .before .before .before .before .before .before .before .before .before
+  s₁ = a .before .before .before .before .before .before .before .before .before .before .before
 
-  answered-at : (v : Balanced) → a .balance .result ≡ v → record { outcome = balanced-outcome v; outputs = a .balance .last .1 .1 .1 .1 .0 ∷ a .balance .last .1 .1 .1 .1 .1 .0 ∷ [] } ≡ balance-call (s₁ .args .types) (now (s₁ .args .cells)) (now (s₁ .args .words)) (length (now (s₁ .args .work))) (now (s₁ .args .out)) (now (s₁ .args .packed))
-  answered-at v e = ap (λ (x : Balanced). record { outcome = balanced-outcome x; outputs = a .balance .last .1 .1 .1 .1 .0 ∷ a .balance .last .1 .1 .1 .1 .1 .0 ∷ [] }) (sym e) ∙ a .balance .ensures
+  answered-at : (v : Balanced) → a .balance .result ≡ v → record { outcome = balanced-outcome v; outputs = a .balance .last .1 .1 .1 .1 .1 .0 ∷ a .balance .last .1 .1 .1 .1 .1 .1 .0 ∷ [] } ≡ balance-call (s₁ .args .types) (flag-as (s₁ .args .none-first)) (now (s₁ .args .cells)) (now (s₁ .args .words)) (length (now (s₁ .args .work))) (now (s₁ .args .out)) (now (s₁ .args .packed))
+  answered-at v e = ap (λ (x : Balanced). record { outcome = balanced-outcome x; outputs = a .balance .last .1 .1 .1 .1 .1 .0 ∷ a .balance .last .1 .1 .1 .1 .1 .1 .0 ∷ [] }) (sym e) ∙ rw (a .before .before .before .before .flag .ensures) at (a .balance .ensures)
 
 returns : tie.Need-returns
 returns c =
@@ -34,6 +35,7 @@ pub hulwyth-balance-spec : {M : Type 1} → statement M
 hulwyth-balance-spec =
     tie.close
     (tie.spec
+    (λ c κs. search needs)
     (λ c κs. search needs)
     (λ c. search needs)
     (λ c. search needs)
