@@ -194,7 +194,15 @@ fn answer_balance(
     fill(lent);
     let lent_packed = &mut packed[..words.len()];
     fill_packed(lent_packed);
-    let answer = balance::balance(given[1], &given[HEAD..], words, work, lent, lent_packed);
+    let answer = balance::balance(
+        given[1],
+        given[2] != 0,
+        &given[HEAD..],
+        words,
+        work,
+        lent,
+        lent_packed,
+    );
     print_balanced(answer);
     text::print(b" :");
     print_words(lent);

@@ -421,7 +421,7 @@ fn show_balance(cells: &mut [u32], children: u32, work: &mut [u32]) {
     lists::put_leaves(cells);
     show::print_number(show::wide(show::word_at(cells, COUNT)));
     show::print(b" leaf trees balanced");
-    let answer = balance::balance(4, cells, &none, work, &mut out, &mut packed);
+    let answer = balance::balance(4, false, cells, &none, work, &mut out, &mut packed);
     expect_balance(answer, &out, children);
 }
 

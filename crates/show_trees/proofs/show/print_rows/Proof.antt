@@ -1,18 +1,18 @@
--- `show_trees::print_lines` is safe and ends: each turn takes the next word. Assumes nothing.
+-- `show_trees::show::print_rows` is safe and ends: each turn takes the next word. Assumes nothing.
 use borrow.Author.Needs.{needs}
 use Prim.Native.Nat.{_-_, _≤_}
 use lib.ListN.{length}
-use Rattle.show_trees.proofs.print_lines.Statement.{statement}
-use Rattle.show_trees.proofs.print_lines.Tie as tie
+use Rattle.show_trees.proofs.show.print_rows.Statement.{statement}
+use Rattle.show_trees.proofs.show.print_rows.Tie as tie
 
 abbrev Inv-loop : tie.InvT-loop
-Inv-loop words i₀ t3 t4 i = i ≤ length words
+Inv-loop words row i₀ t4 t5 i = i ≤ length words
 
 abbrev μ-loop : tie.MeasureT-loop
-μ-loop words i₀ t3 t4 i = length words - i
+μ-loop words row i₀ t4 t5 i = length words - i
 
-pub print-lines-spec : {M : Type 1} → statement M
-print-lines-spec =
+pub print-rows-spec : {M : Type 1} → statement M
+print-rows-spec =
     tie.close
     (tie.spec
     Inv-loop
@@ -21,6 +21,7 @@ print-lines-spec =
     (λ c. search needs)
     (λ c. search needs)
     (λ c. search needs)
+    (λ c κs. search needs)
     (λ c κs. search needs)
     (λ c κs. search needs)
     (λ c. search needs)
