@@ -2,10 +2,10 @@
 //!
 //! There is a driver for each of parts, lists, trees and builds: a file with its runs, and a folder with its random
 //! inputs (`cases`, `bundles`), all short ones (`short`), the comparison of one input (`compare`) with what is expected
-//! (`model`), the recorded sample (`sample`) and the times (`bench`). What several of them use is beside this file: the
-//! exported calls (`calls`), the Rust (`rezel`, `oracle`), all short inputs (`spelling`), the slices that are lent
-//! (`lent`), the widths of records, cells and lines (`widths`), samples written to files (`recording`), what is printed
-//! (`report`), options and times.
+//! (`model`, `balancing`), the recorded sample (`sample`) and the times (`bench`). What several of them use is beside
+//! this file: the exported calls (`calls`), the Rust (`rezel`, `oracle`), all short inputs (`spelling`), the slices that
+//! are lent (`lent`), the widths of records, cells and lines (`widths`), samples written to files (`recording`), what is
+//! printed (`report`), options and times.
 
 mod builds;
 mod calls;
@@ -30,6 +30,8 @@ mod widths;
 mod flatten;
 #[path = "definitions/forests.rs"]
 mod forests;
+#[path = "definitions/none_first.rs"]
+mod none_first;
 #[allow(dead_code)]
 #[path = "definitions/lists.rs"]
 mod random_lists;

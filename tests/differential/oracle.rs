@@ -15,18 +15,24 @@ use crate::rezel::{self, Panicked, guarded};
 /// One more type than a set may have: every larger number of types fails by the same assertion.
 const TOO_MANY_TYPES: u32 = 65_537;
 
-/// The node sets made so far, one for each number of types.
+/// The node sets made so far, by the number of types and whether none is in place 0.
 #[derive(Default)]
 pub struct Oracle {
-    sets: HashMap<u32, Result<Arc<NodeSet>, Panicked>>,
+    sets: HashMap<(u32, bool), Result<Arc<NodeSet>, Panicked>>,
 }
 
 impl Oracle {
+    /// The set of so many types without none.
     pub fn set(&mut self, types: u32) -> Result<Arc<NodeSet>, Panicked> {
+        self.set_with(types, false)
+    }
+
+    /// The set of so many types, with none in place 0 or without it.
+    pub fn set_with(&mut self, types: u32, none_first: bool) -> Result<Arc<NodeSet>, Panicked> {
         let types = types.min(TOO_MANY_TYPES);
         self.sets
-            .entry(types)
-            .or_insert_with(|| guarded(|| rezel::node_set(types)))
+            .entry((types, none_first))
+            .or_insert_with(|| guarded(|| rezel::node_set(types, none_first)))
             .clone()
     }
 
@@ -44,7 +50,17 @@ impl Oracle {
 
     /// The same with a given length or none.
     pub fn build_given(&mut self, list: &List, given: Option<u32>) -> Result<Tree, Panicked> {
-        let set = self.set(list.types)?;
+        self.build_with(list, given, false)
+    }
+
+    /// The same on the set with none in place 0 or without it.
+    pub fn build_with(
+        &mut self,
+        list: &List,
+        given: Option<u32>,
+        none_first: bool,
+    ) -> Result<Tree, Panicked> {
+        let set = self.set_with(list.types, none_first)?;
         let top = u16::try_from(list.top).map_err(|_| Panicked)?;
         let build = TreeBuild {
             buffer: list.words.to_vec(),

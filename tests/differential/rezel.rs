@@ -44,6 +44,11 @@ pub mod tree {
         let (position, base) = (TextSize::new(position), TextSize::new(base));
         find_buffer_child(buffer, from, to, direction, position, base, side)
     }
+
+    /// Where a tree stands in memory: no two trees that are held at one time stand in one place.
+    pub fn address(tree: &Tree) -> usize {
+        Arc::as_ptr(&tree.0) as usize
+    }
 }
 
 /// The names that the sources expect at the root of their crate.
@@ -56,9 +61,12 @@ pub mod root {
 
 use tree::{NodeFlags, NodeSet, NodeType};
 
-/// So many types, none of them `NodeType::none` itself.
-pub fn node_set(types: u32) -> Arc<NodeSet> {
-    let all = (0..types).map(|id| NodeType::new(id as u16, "t", NodeFlags::default()));
+/// So many types. `none_first`: place 0 is `NodeType::none` itself, if there is such a place; else no place is.
+pub fn node_set(types: u32, none_first: bool) -> Arc<NodeSet> {
+    let all = (0..types).map(|id| match id {
+        0 if none_first => NodeType::none(),
+        _ => NodeType::new(id as u16, "t", NodeFlags::default()),
+    });
     Arc::new(NodeSet::new(all.collect()))
 }
 

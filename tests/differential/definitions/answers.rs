@@ -8,6 +8,7 @@ use crate::NodeType;
 use crate::antt::{self, Case};
 use crate::flatten::{Flat, flatten, lines, outline};
 use crate::lists::List;
+use crate::none_first::NoneFirst;
 use crate::rezel::tree::{NodeSet, Tree, TreeChild};
 use crate::rezel::{guarded, node_set};
 use crate::trees::Sample;
@@ -76,6 +77,8 @@ pub struct Seen {
     grouped: usize,
     balanced_builds: usize,
     balanced_trees: usize,
+    /// Trees that balancing changes otherwise on the set with none in place 0.
+    otherwise: usize,
 }
 
 impl fmt::Display for Seen {
@@ -86,29 +89,32 @@ impl fmt::Display for Seen {
             grouped,
             balanced_builds,
             balanced_trees,
+            otherwise,
         } = self;
         write!(
             out,
             "{records} records, {parts} parts, {grouped} lists with groups, "
         )?;
         write!(out, "{balanced_builds} lists with inner trees, ")?;
-        write!(out, "{balanced_trees} trees that balancing changes")
+        write!(out, "{balanced_trees} trees that balancing changes, ")?;
+        write!(out, "{otherwise} otherwise with none in place 0")
     }
 }
 
 /// The Rust, and what it was asked.
 #[derive(Default)]
 pub struct Rust {
-    sets: HashMap<u32, Arc<NodeSet>>,
+    sets: HashMap<(u32, bool), Arc<NodeSet>>,
     pub seen: Seen,
     /// Inputs on which it panics although they are accepted, or lists another reading.
     pub wrong: Vec<String>,
 }
 
 impl Rust {
-    pub fn set(&mut self, types: u32) -> Arc<NodeSet> {
-        let set = self.sets.entry(types);
-        Arc::clone(set.or_insert_with(|| node_set(types)))
+    /// The set of so many types, with none in place 0 or without it.
+    pub fn set(&mut self, types: u32, none_first: bool) -> Arc<NodeSet> {
+        let set = self.sets.entry((types, none_first));
+        Arc::clone(set.or_insert_with(|| node_set(types, none_first)))
     }
 
     /// The case of an input; none where the Rust panics, which is noted.
@@ -127,7 +133,7 @@ impl Rust {
 
     /// The tree that the Rust builds of records; none where it panics.
     fn build(&mut self, list: &List, records: Vec<u32>) -> Option<Tree> {
-        let build = list.build(records, self.set(list.types));
+        let build = list.build(records, self.set(list.types, false));
         guarded(|| Tree::build(&build)).ok()
     }
 
@@ -215,19 +221,24 @@ impl Rust {
         ))
     }
 
-    /// A tree as it is, balanced, materialised, and then listed.
+    /// A tree as it is, balanced on a set without none in place 0 and on one with it, materialised, and then listed.
     fn tree(&mut self, sample: &Sample) -> String {
         let flat = flatten(&sample.tree);
         let balanced = flatten(&sample.tree.balance());
+        let set = self.set(sample.types, true);
+        let none_first = NoneFirst::new(&sample.tree, &set).balanced();
         self.seen.parts += parts(&flat);
         self.seen.balanced_trees += usize::from(balanced != flat);
+        self.seen.otherwise += usize::from(balanced != none_first);
         let materialised = sample.tree.materialize();
         let (types, first, start) = (sample.types, sample.first_repeat, sample.start);
         let (cells, words) = (antt::list(&flat.cells), antt::list(&flat.words));
         format!(
-            "tree-answer {types} {first} {start} {cells} {words}\n    ≡ tree-rust {cells} {words} {} {} {} {}",
+            "tree-answer {types} {first} {start} {cells} {words}\n    ≡ tree-rust {cells} {words} {} {} {} {} {} {}",
             antt::list(&balanced.cells),
             antt::list(&balanced.words),
+            antt::list(&none_first.cells),
+            antt::list(&none_first.words),
             antt::list(&flatten(&materialised).cells),
             antt::list(lines(&materialised, first, start)),
         )

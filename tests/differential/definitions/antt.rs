@@ -63,20 +63,23 @@ list-answer T F b S top given list =
 unfoldable pub list-rust : (n : ℕ) (cs ws m lines : List ℕ) → List (List ℕ)
 list-rust n cs ws m lines = (0 ∷ 0 ∷ n ∷ []) ∷ lines ∷ cs ∷ ws ∷ m ∷ lines ∷ [] ∷ [] ∷ []
 
--- A tree handed in as cells and words: what the cell rules say against it, it written again as it is read, balanced, materialised
--- and then listed.
+-- A tree handed in as cells and words: what the cell rules say against it, it written again as it is read, balanced on a set
+-- without none in place 0 and on one with it, materialised and then listed.
 unfoldable pub tree-answer : (T F S : ℕ) (cs ws : List ℕ) → List (List ℕ)
 tree-answer T F S cs ws =
     let again : Written = written 0 (absolute 0 (decode ws cs)) in
-    let b : Written = balance-cells cs ws in
+    let b : Written = balance-cells false cs ws in
+    let n : Written = balance-cells true cs ws in
     let m : List ℕ = materialise-cells cs ws in
     at-fault (bad-cell T 0 true cs ws)
-    ∷ again .cells ∷ again .words ∷ b .cells ∷ b .words ∷ m ∷ list-cells F S m
-    ∷ at-fault (bad-cell T 0 true (b .cells) (b .words)) ∷ at-fault (bad-cell T S false m []) ∷ []
+    ∷ again .cells ∷ again .words ∷ b .cells ∷ b .words ∷ n .cells ∷ n .words ∷ m ∷ list-cells F S m
+    ∷ at-fault (bad-cell T 0 true (b .cells) (b .words)) ∷ at-fault (bad-cell T 0 true (n .cells) (n .words))
+    ∷ at-fault (bad-cell T S false m []) ∷ []
 
--- the Rust's: the tree itself, balanced and materialised, and the lines; no cell breaks a rule
-unfoldable pub tree-rust : (cs ws bcs bws m lines : List ℕ) → List (List ℕ)
-tree-rust cs ws bcs bws m lines = [] ∷ cs ∷ ws ∷ bcs ∷ bws ∷ m ∷ lines ∷ [] ∷ [] ∷ []
+-- the Rust's: the tree itself, balanced on the two sets and materialised, and the lines; no cell breaks a rule
+unfoldable pub tree-rust : (cs ws bcs bws ncs nws m lines : List ℕ) → List (List ℕ)
+tree-rust cs ws bcs bws ncs nws m lines =
+    [] ∷ cs ∷ ws ∷ bcs ∷ bws ∷ ncs ∷ nws ∷ m ∷ lines ∷ [] ∷ [] ∷ [] ∷ []
 
 -- the forest f inside n records of id 0 from 0 to e, each in the next
 unfoldable pub around : (n e : ℕ) → Forest → Forest

@@ -11,54 +11,70 @@ pub struct Flat {
     pub words: Vec<u64>,
 }
 
+/// The kind and the id of a tree.
+pub type KindAndId = (u64, u64);
+
 pub fn flatten(tree: &Tree) -> Flat {
-    let mut flat = Flat::default();
-    write_tree(&mut flat, tree, 0, true);
-    flat
+    flatten_by(tree, |tree| kind_and_id(tree.node_type()))
 }
 
-/// The cell of a tree, then the cells of its descendants. `last`: no sibling follows.
-fn write_tree(flat: &mut Flat, tree: &Tree, position: u64, last: bool) {
-    let at = flat.cells.len();
-    let (kind, id) = kind_and_id(tree.node_type());
-    let count = tree.children().len();
-    let first = if count == 0 { 0 } else { number(at) + 1 };
-    let length = value(tree.len());
-    flat.cells
-        .extend([kind, id, position, length, first, count as u64, 0]);
-    for (index, child) in tree.children().iter().enumerate() {
-        let position = value(tree.positions()[index]);
-        write_child(flat, child, position, index + 1 == count);
+/// The same with the kind and id that each tree is told to have.
+pub fn flatten_by(tree: &Tree, told: impl Fn(&Tree) -> KindAndId) -> Flat {
+    let flat = Flat::default();
+    let mut writer = Writer { flat, told };
+    writer.tree(tree, 0, true);
+    writer.flat
+}
+
+struct Writer<K> {
+    flat: Flat,
+    told: K,
+}
+
+impl<K: Fn(&Tree) -> KindAndId> Writer<K> {
+    /// The cell of a tree, then the cells of its descendants. `last`: no sibling follows.
+    fn tree(&mut self, tree: &Tree, position: u64, last: bool) {
+        let at = self.flat.cells.len();
+        let (kind, id) = (self.told)(tree);
+        let count = tree.children().len();
+        let first = if count == 0 { 0 } else { number(at) + 1 };
+        let length = value(tree.len());
+        let cell = [kind, id, position, length, first, count as u64, 0];
+        self.flat.cells.extend(cell);
+        for (index, child) in tree.children().iter().enumerate() {
+            let position = value(tree.positions()[index]);
+            self.child(child, position, index + 1 == count);
+        }
+        self.link(at, last);
     }
-    link(flat, at, last);
-}
 
-fn write_child(flat: &mut Flat, child: &TreeChild, position: u64, last: bool) {
-    let buffer = match child {
-        TreeChild::Tree(tree) => return write_tree(flat, tree, position, last),
-        TreeChild::Buffer(buffer) => buffer,
-    };
-    let at = flat.cells.len();
-    let (offset, count) = (flat.words.len() as u64, buffer.data().len() as u64);
-    flat.cells
-        .extend([2, 0, position, value(buffer.len()), offset, count, 0]);
-    flat.words
-        .extend(buffer.data().iter().map(|&word| u64::from(word)));
-    link(flat, at, last);
+    fn child(&mut self, child: &TreeChild, position: u64, last: bool) {
+        let buffer = match child {
+            TreeChild::Tree(tree) => return self.tree(tree, position, last),
+            TreeChild::Buffer(buffer) => buffer,
+        };
+        let Flat { cells, words } = &mut self.flat;
+        let at = cells.len();
+        let (offset, count) = (words.len() as u64, buffer.data().len() as u64);
+        cells.extend([2, 0, position, value(buffer.len()), offset, count, 0]);
+        words.extend(buffer.data().iter().map(|&word| u64::from(word)));
+        self.link(at, last);
+    }
+
+    /// The word `next` of the cell at a word offset: the cell after its last descendant, where a sibling follows.
+    fn link(&mut self, at: usize, last: bool) {
+        let cells = &mut self.flat.cells;
+        if !last {
+            cells[at + NEXT] = number(cells.len());
+        }
+    }
 }
 
 /// Kind 3 is for the one type that `NodeType::none` gives, whatever other types are named or numbered alike.
-fn kind_and_id(kind: &NodeType) -> (u64, u64) {
+pub fn kind_and_id(kind: &NodeType) -> KindAndId {
     match kind.is(&NodeType::none()) {
         true => (3, 0),
         false => (1, kind.id().into()),
-    }
-}
-
-/// The word `next` of the cell at a word offset: the cell after its last descendant, where a sibling follows.
-fn link(flat: &mut Flat, at: usize, last: bool) {
-    if !last {
-        flat.cells[at + NEXT] = number(flat.cells.len());
     }
 }
 

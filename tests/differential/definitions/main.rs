@@ -6,6 +6,7 @@ mod antt;
 mod flatten;
 mod forests;
 mod lists;
+mod none_first;
 mod shrink;
 mod trees;
 mod verdict;
@@ -109,7 +110,7 @@ fn compare(options: &Options) -> io::Result<ExitCode> {
 /// The cases by the names of their files.
 fn cases(options: &Options, rust: &mut Rust) -> Vec<(&'static str, Vec<Case>)> {
     let rng = &mut Rng::new(options.seed);
-    let sets: Vec<_> = (0..5).map(|types| rust.set(types)).collect();
+    let sets: Vec<_> = (0..5).map(|types| rust.set(types, false)).collect();
     let lists = Vec::from_iter((0..options.lists).map(|_| Input::List(lists::random(rng))));
     let deep = Vec::from_iter((0..options.deep).map(|_| deep(rng)));
     let wide = limits().chain(std::iter::repeat_with(|| wide(rng)));

@@ -37,11 +37,13 @@ pub fn random(rng: &mut Rng, sets: &[Arc<NodeSet>]) -> Sample {
     let first_repeat = rng.below(types as usize + 2) as u32;
     let start = rng.pick(&[0, 0, 5, 1_000_000]);
     let scale = rng.pick(&[1, 1, 1, 1, 1, 30, 7_000]);
+    let id_0 = rng.pick(&[0, 0, 40, 100]);
     let mut maker = Maker {
         rng,
         set: Arc::clone(&sets[types as usize]),
         left: 0,
         scale,
+        id_0,
     };
     Sample {
         types,
@@ -58,6 +60,8 @@ struct Maker<'a> {
     left: usize,
     /// Lengths are multiplied by it.
     scale: u32,
+    /// Of a hundred trees that would be of `NodeType::none` so many have the id 0 instead.
+    id_0: usize,
 }
 
 /// Children in order with their positions, and where the last one ends.
@@ -137,8 +141,14 @@ impl Maker<'_> {
             _ if depth == 0 => self.leaf(),
             0 => self.leaf(),
             1 => self.anonymous_leaf(),
-            2 => self.inner(NodeType::none(), depth, Favour::Pure),
-            3 => self.inner(NodeType::none(), depth, Favour::Any),
+            2 => {
+                let kind = self.none_or_id_0();
+                self.inner(kind, depth, Favour::Pure)
+            }
+            3 => {
+                let kind = self.none_or_id_0();
+                self.inner(kind, depth, Favour::Any)
+            }
             4 => {
                 let kind = self.kind();
                 self.inner(kind, depth, Favour::Any)
@@ -151,6 +161,13 @@ impl Maker<'_> {
         self.set.types()[self.rng.below(self.set.types().len())].clone()
     }
 
+    fn none_or_id_0(&mut self) -> NodeType {
+        match self.rng.below(100) < self.id_0 {
+            true => self.set.types()[0].clone(),
+            false => NodeType::none(),
+        }
+    }
+
     fn length(&mut self) -> u32 {
         self.rng.pick(&[0, 0, 1, 1, 2, 5, 9]) * self.scale
     }
@@ -161,8 +178,8 @@ impl Maker<'_> {
     }
 
     fn anonymous_leaf(&mut self) -> TreeChild {
-        let length = self.length();
-        TreeChild::Tree(Row::default().tree(NodeType::none(), length))
+        let (kind, length) = (self.none_or_id_0(), self.length());
+        TreeChild::Tree(Row::default().tree(kind, length))
     }
 
     /// A tree whose children end within it.
@@ -212,6 +229,6 @@ impl Maker<'_> {
 enum Favour {
     Any,
     Leaves,
-    /// Trees of `NodeType::none` all the way down, which balancing divides.
+    /// Trees of `NodeType::none`, or of id 0, all the way down, which balancing divides.
     Pure,
 }
