@@ -119,9 +119,28 @@ impl BuildSession {
         let rust = built.map_err(|Panicked| String::from("accepted, and the Rust panics"))?;
         let (cells, words) = rust_trees::cells_of(&rust);
         let written = Written { cells, words };
+        self.none_first(case, &written)?;
         self.sized(case, &written)?;
         self.note(case, &written);
         self.run(case, &rust, written)
+    }
+
+    /// Whether the Rust builds the same tree on the set with none in place 0.
+    fn none_first(&mut self, case: &Case, written: &Written) -> Result<(), String> {
+        let built = self.oracle.build_with(&case.list, case.given, true);
+        let rust =
+            built.map_err(|Panicked| String::from("the Rust panics with none in place 0"))?;
+        let (cells, words) = rust_trees::built_cells(&rust);
+        if cells != written.cells || words != written.words {
+            return Err(format!(
+                "with none in place 0 the Rust builds {} {}",
+                shortened(&cells),
+                shortened(&words)
+            ));
+        }
+        self.tally.seen.none_first += 1;
+        self.tally.seen.none_first_and_f_0 += u64::from(case.list.first_repeat == 0);
+        Ok(())
     }
 
     /// The build on slices that are just large enough, larger, and one word short.

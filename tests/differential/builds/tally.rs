@@ -16,6 +16,9 @@ pub struct Difference {
 pub struct Seen {
     pub calls: u64,
     pub accepted: u64,
+    /// Lists built on the node set with none in place 0 too, and those of them with F 0.
+    pub none_first: u64,
+    pub none_first_and_f_0: u64,
     pub records: u64,
     pub cells: u64,
     pub parts: u64,
@@ -36,6 +39,8 @@ impl Seen {
     fn add(&mut self, other: &Self) {
         self.calls += other.calls;
         self.accepted += other.accepted;
+        self.none_first += other.none_first;
+        self.none_first_and_f_0 += other.none_first_and_f_0;
         self.records += other.records;
         self.cells += other.cells;
         self.parts += other.parts;

@@ -3,7 +3,7 @@
 use std::sync::Arc;
 
 use crate::TextSize;
-use crate::flatten::{Flat, flatten};
+use crate::flatten::{Flat, flatten, flatten_by};
 use crate::tree::{NodeSet, NodeType, Tree, TreeBuffer, TreeChild};
 use crate::trees::model::Handed;
 use crate::widths::{CELL_WIDTH, COUNT, FIRST, ID, KIND, LENGTH, NEXT, POSITION};
@@ -55,9 +55,29 @@ impl Reader<'_> {
 
 /// Cells and words of a Rust tree, at the widths of the calls.
 pub fn cells_of(tree: &Tree) -> (Vec<u32>, Vec<u16>) {
-    let Flat { cells, words } = flatten(tree);
-    let words = words.iter().map(|&word| word as u16);
-    (narrow(&cells), words.collect())
+    narrowed(&flatten(tree))
+}
+
+/// The same of a tree that was built: each of its trees is of kind 1, also on a set with none in place 0.
+pub fn built_cells(tree: &Tree) -> (Vec<u32>, Vec<u16>) {
+    narrowed(&flatten_by(tree, |tree| (1, tree.node_type().id().into())))
+}
+
+/// Cells and words at the widths of the calls.
+pub fn narrowed(flat: &Flat) -> (Vec<u32>, Vec<u16>) {
+    let words = flat.words.iter().map(|&word| word as u16);
+    (narrow(&flat.cells), words.collect())
+}
+
+/// Cells with each tree of id 0 as one of kind 3, as they are alike on a set with none in place 0.
+pub fn with_id_0_as_none(cells: &[u32]) -> Vec<u32> {
+    let mut alike = cells.to_vec();
+    for cell in alike.chunks_mut(CELL_WIDTH) {
+        if cell[KIND] == 1 && cell[ID] == 0 {
+            cell[KIND] = 3;
+        }
+    }
+    alike
 }
 
 /// Numbers as 32-bit words; every one fits.
