@@ -57,6 +57,7 @@ unsafe extern "C" {
 
     fn hulwyth_balance(
         types: u32,
+        none_first: u32,
         cells: *const u32,
         cells_len: usize,
         words: *const u16,
@@ -186,8 +187,10 @@ pub fn materialise(tree: &Handed, work: &mut [u32], out: &mut [u32], info: &mut 
     )
 }
 
+/// `none_first`: 0 where place 0 of the node set is not none.
 pub fn balance(
     tree: &Handed,
+    none_first: u32,
     work: &mut [u32],
     out: &mut [u32],
     packed: &mut [u16],
@@ -195,7 +198,7 @@ pub fn balance(
 ) -> u32 {
     call!(
         hulwyth_balance,
-        [tree.types],
+        [tree.types, none_first],
         [tree.cells, tree.words],
         [work, out, packed, info]
     )

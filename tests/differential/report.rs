@@ -127,7 +127,7 @@ impl Tally {
 
     fn print(&self) {
         println!(
-            "{:12}{:>8}{:>12}{:>12}{:>12}{:>12}",
+            "{:16}{:>8}{:>12}{:>12}{:>12}{:>12}",
             "call", "number", "cases", "agreements", "panics", "intended"
         );
         for ((call, number), row) in &self.rows {
@@ -136,11 +136,11 @@ impl Tally {
                 number => number.to_string(),
             };
             println!(
-                "{call:12}{number:>8}{:>12}{:>12}{:>12}{:>12}",
+                "{call:16}{number:>8}{:>12}{:>12}{:>12}{:>12}",
                 row.cases, row.same, row.panics, row.intended
             );
         }
-        println!("{:20}{:>12}", "all", self.cases());
+        println!("{:24}{:>12}", "all", self.cases());
         println!("intended differences:");
         for (name, class) in &self.classes {
             println!(

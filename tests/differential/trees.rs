@@ -1,11 +1,13 @@
 //! The runs over the tree calls: short slices of cells, all of them; large trees; random and damaged ones.
 
+mod balancing;
 pub mod bench;
 mod cases;
 mod compare;
 pub mod model;
 pub mod rust_trees;
 pub mod sample;
+mod seen;
 mod short;
 
 use std::process::ExitCode;
@@ -44,8 +46,9 @@ fn compare(seed: u64, cases: u64) -> ExitCode {
             random(session, &mut rng, &sets);
         }
     });
+    let status = session.tally.finish();
     println!("{}", session.seen);
-    session.tally.finish()
+    status
 }
 
 /// The sets of up to six types that Rust trees of random shapes are made of.
@@ -140,16 +143,16 @@ fn large(session: &mut TreeSession, rng: &mut Rng) {
         length: 2,
     };
     let mixes = [
-        (0, 0, 1),
-        (0, 90, 1),
-        (2, 10, 16_383),
-        (100, 0, 16_383),
-        (30, 30, 7),
+        Mix::new(0, 0, 0, 1),
+        Mix::new(0, 90, 0, 1),
+        Mix::new(0, 100, 60, 1),
+        Mix::new(2, 10, 50, 16_383),
+        Mix::new(100, 0, 0, 16_383),
+        Mix::new(30, 30, 30, 7),
     ];
     for shape in shapes {
-        for (parts, none, run) in mixes {
+        for mix in mixes {
             for nodes in [1_000, 16_383, 16_384] {
-                let mix = Mix { parts, none, run };
                 let tree = cases::good_tree(rng, &stuff, nodes, shape, mix);
                 session.check(&tree);
                 session.check(&cases::damaged(rng, &tree));

@@ -1,4 +1,4 @@
-//! Times of materialise and list by shape, beside the Rust's own on the same tree.
+//! Times of balance, materialise and list by shape, beside the Rust's own on the same tree.
 
 use std::hint::black_box;
 use std::process::ExitCode;
@@ -9,6 +9,7 @@ use crate::rng::Rng;
 use crate::timing::quickest;
 use crate::tree::{NodeType, TreeChild};
 use crate::trees::cases::{self, Mix};
+use crate::trees::compare::Call;
 use crate::trees::model::{Handed, work_words};
 use crate::trees::rust_trees;
 use crate::widths::{CELL_WIDTH, NEXT};
@@ -26,8 +27,55 @@ const NOTE: &str = "ns per cell of the result (of list: of the materialised tree
 materialise is `Tree::materialize`, with its allocation and without dropping the result; it checks nothing, and the call
 here checks all cells and words first. The Rust's list is a walk over the children of the materialised tree that writes the
 same lines. The Rust's balance shares what stays as it is and so may take no time at all, while the call here writes all
-cells: its time is that of `Tree::balance` and a walk that writes the cells and words of the result.
+cells: its time is that of `Tree::balance` and a walk that writes the cells and words of the result. `balance, none` is on a
+node set with none in place 0, on both sides.
 The work slice has been written to before, so that no page of it is new.";
+
+/// What is measured: forests of a shape, and how their nodes become cells.
+const SHAPES: [(&str, Shape, Mix); 11] = [
+    (
+        "flat, parts of 1,000 records",
+        Shape::Flat,
+        Mix::new(100, 0, 0, 1_000),
+    ),
+    (
+        "flat, parts of 4 records",
+        Shape::Flat,
+        Mix::new(100, 0, 0, 4),
+    ),
+    ("flat, no parts", Shape::Flat, TREES),
+    (
+        "parents of 999 leaves, leaves in parts",
+        Shape::Wide(999),
+        Mix::new(95, 0, 0, 999),
+    ),
+    (
+        "random nesting, some in parts",
+        Shape::Mixed(60, 5),
+        Mix::new(30, 5, 0, 5),
+    ),
+    ("random nesting, no parts", Shape::Mixed(60, 5), TREES),
+    (
+        "balanced binary, some in parts",
+        Shape::Binary,
+        Mix::new(10, 5, 0, 2),
+    ),
+    ("balanced binary, no parts", Shape::Binary, TREES),
+    (
+        "parents of 999 leaves, all of kind 3",
+        Shape::Wide(999),
+        Mix::new(0, 100, 0, 1),
+    ),
+    (
+        "parents of 999 leaves, all of id 0",
+        Shape::Wide(999),
+        Mix::new(0, 100, 100, 1),
+    ),
+    ("one chain, no parts", Shape::Chain, TREES),
+];
+
+/// Trees alone, a few of them of kind 3.
+const TREES: Mix = Mix::new(0, 5, 0, 1);
 
 pub fn run(seed: u64) -> ExitCode {
     run_on_large_stack(move || measure(seed))
@@ -36,38 +84,12 @@ pub fn run(seed: u64) -> ExitCode {
 fn measure(seed: u64) -> ExitCode {
     println!("seed {seed}\n{NOTE}");
     println!(
-        "{:40}{:12}{:>10}{:>10}{:>9}{:>9}{:>8}",
+        "{:40}{:16}{:>10}{:>10}{:>9}{:>9}{:>8}",
         "shape", "call", "cells in", "cells out", "here", "Rust", "ratio"
     );
-    let none = (0, 5, 1);
-    let shapes = [
-        ("flat, parts of 1,000 records", Shape::Flat, (100, 0, 1_000)),
-        ("flat, parts of 4 records", Shape::Flat, (100, 0, 4)),
-        ("flat, no parts", Shape::Flat, none),
-        (
-            "parents of 999 leaves, leaves in parts",
-            Shape::Wide(999),
-            (95, 0, 999),
-        ),
-        (
-            "random nesting, some in parts",
-            Shape::Mixed(60, 5),
-            (30, 5, 5),
-        ),
-        ("random nesting, no parts", Shape::Mixed(60, 5), none),
-        ("balanced binary, some in parts", Shape::Binary, (10, 5, 2)),
-        ("balanced binary, no parts", Shape::Binary, none),
-        (
-            "parents of 999 leaves, all of kind 3",
-            Shape::Wide(999),
-            (0, 100, 1),
-        ),
-        ("one chain, no parts", Shape::Chain, none),
-    ];
     let mut rng = Rng::new(seed);
     let mut bench = Bench::new();
-    for (name, shape, (parts, none, run)) in shapes {
-        let mix = Mix { parts, none, run };
+    for (name, shape, mix) in SHAPES {
         bench.measure(name, &grown(&mut rng, shape, mix));
     }
     ExitCode::SUCCESS
@@ -109,20 +131,16 @@ impl Bench {
     }
 
     fn measure(&mut self, name: &str, tree: &Handed) {
-        let set = self.oracle.set(tree.types).expect("a set of few types");
-        let rust = rust_trees::tree_of(tree, &set);
-        let mut info = [0; 3];
-        let (work, out) = (&mut self.work, &mut self.out);
-        let mut packed = vec![0; tree.words.len()];
         let row = Row {
             shape: name,
             cells: tree.cells.len() / CELL_WIDTH,
         };
-        let ours = best(|| calls::balance(black_box(tree), work, out, &mut packed, &mut info));
-        let (balanced, _) = cells(&rust.balance());
-        assert_eq!(out[..balanced.len()], balanced, "the balanced cells differ");
-        let theirs = best(|| cells(&black_box(&rust).balance()));
-        row.print("balance", info[1], ours, theirs);
+        for none_first in [0, 1] {
+            self.balance(&row, tree, none_first);
+        }
+        let rust = self.rust(tree, 0);
+        let (work, out) = (&mut self.work, &mut self.out);
+        let mut info = [0; 3];
         let ours = best(|| calls::materialise(black_box(tree), work, out, &mut info));
         let theirs = best(|| black_box(&rust).materialize());
         let count = info[1];
@@ -139,6 +157,31 @@ impl Bench {
         let theirs = best(|| lines(black_box(&materialised), tree.first_repeat, tree.start));
         row.print("list", count, ours, theirs);
     }
+
+    /// The Rust's tree, on a node set without none in place 0 where `none_first` is 0, else on one with it.
+    fn rust(&mut self, tree: &Handed, none_first: u32) -> Tree {
+        let set = self.oracle.set_with(tree.types, none_first != 0);
+        rust_trees::tree_of(tree, &set.expect("a set of few types"))
+    }
+
+    fn balance(&mut self, row: &Row, tree: &Handed, none_first: u32) {
+        let rust = self.rust(tree, none_first);
+        let (work, out) = (&mut self.work, &mut self.out);
+        let mut packed = vec![0; tree.words.len()];
+        let mut info = [0; 3];
+        let ours = best(|| {
+            let tree = black_box(tree);
+            calls::balance(tree, none_first, work, out, &mut packed, &mut info)
+        });
+        let (balanced, _) = cells(&rust.balance());
+        let mut found = out[..balanced.len()].to_vec();
+        if none_first != 0 {
+            found = rust_trees::with_id_0_as_none(&found);
+        }
+        assert_eq!(found, balanced, "the balanced cells differ");
+        let theirs = best(|| cells(&black_box(&rust).balance()));
+        row.print(Call::Balance(none_first).name(), info[1], ours, theirs);
+    }
 }
 
 /// What the lines of one tree have in common.
@@ -151,7 +194,7 @@ impl Row<'_> {
     fn print(&self, call: &str, out: u32, ours: f64, theirs: f64) {
         let each = |nanoseconds: f64| nanoseconds / f64::from(out);
         println!(
-            "{:40}{call:12}{:>10}{out:>10}{:>9.1}{:>9.1}{:>8.2}",
+            "{:40}{call:16}{:>10}{out:>10}{:>9.1}{:>9.1}{:>8.2}",
             self.shape,
             self.cells,
             each(ours),

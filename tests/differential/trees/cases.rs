@@ -16,14 +16,28 @@ pub struct Mix {
     pub parts: usize,
     /// Of a hundred trees so many are of kind 3.
     pub none: usize,
+    /// Of a hundred of these so many are of kind 1 with id 0 instead.
+    pub id_0: usize,
     /// The most siblings of one part.
     pub run: usize,
+}
+
+impl Mix {
+    pub const fn new(parts: usize, none: usize, id_0: usize, run: usize) -> Self {
+        Self {
+            parts,
+            none,
+            id_0,
+            run,
+        }
+    }
 }
 
 pub fn any_mix(rng: &mut Rng) -> Mix {
     Mix {
         parts: rng.pick(&[0, 10, 40, 80]),
         none: rng.pick(&[0, 20, 90]),
+        id_0: rng.pick(&[0, 0, 40, 100]),
         run: rng.pick(&[1, 3, 40]),
     }
 }
@@ -128,8 +142,7 @@ impl Writer<'_> {
             }
         }
         let node = &siblings[0];
-        let none = self.rng.below(100) < self.mix.none;
-        let (kind, id) = if none { (3, 0) } else { (1, node.id) };
+        let (kind, id) = self.kind_and_id(node);
         let (position, length) = (node.start - start, node.end - node.start);
         self.cell(
             [kind, id, position, length, 0, 0, 0],
@@ -137,6 +150,16 @@ impl Writer<'_> {
             node.start,
         );
         &siblings[1..]
+    }
+
+    fn kind_and_id(&mut self, node: &Node) -> (u32, u32) {
+        let Mix { none, id_0, .. } = self.mix;
+        let mut of = |share: usize| self.rng.below(100) < share;
+        match of(none) {
+            false => (1, node.id),
+            true if of(id_0) => (1, 0),
+            true => (3, 0),
+        }
     }
 
     /// A part at a position: what its records need, and now and then more.

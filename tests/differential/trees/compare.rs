@@ -1,14 +1,17 @@
 //! One tree at a time: library against model in everything, library against the Rust where the tree is accepted.
 
 use crate::calls;
-use crate::flatten;
+use crate::flatten::{self, flatten};
 use crate::lent::{BEHIND, Filling, Lent, UNTOUCHED, answered, front_only, refill, untouched};
+use crate::none_first::NoneFirst;
 use crate::oracle::Oracle;
 use crate::report::{Input, Outcome, Run, Tally, shortened};
 use crate::rezel::Panicked;
+use crate::trees::balancing;
 use crate::trees::model::{self, Handed, Verdict};
 use crate::trees::rust_trees;
-use crate::widths::{CELL_WIDTH, KIND, LINE_WIDTH, RECORD_WIDTH};
+use crate::trees::seen::Seen;
+use crate::widths::{CELL_WIDTH, LINE_WIDTH};
 
 /// One call on a tree.
 struct Case<'a> {
@@ -16,12 +19,12 @@ struct Case<'a> {
     tree: &'a Handed,
 }
 
-/// A call, with its number in a recorded line.
+/// A call; of balance with the number that says whether place 0 of the node set is none: 0 for no, any other for yes.
 #[derive(Clone, Copy)]
 pub enum Call {
-    Materialise = 1,
-    List = 2,
-    Balance = 3,
+    Materialise,
+    List,
+    Balance(u32),
 }
 
 impl Call {
@@ -29,7 +32,8 @@ impl Call {
         match self {
             Self::Materialise => "materialise",
             Self::List => "list",
-            Self::Balance => "balance",
+            Self::Balance(0) => "balance",
+            Self::Balance(_) => "balance, none",
         }
     }
 
@@ -37,10 +41,13 @@ impl Call {
     fn no_room(self) -> u32 {
         match self {
             Self::List => 14,
-            Self::Materialise | Self::Balance => 12,
+            Self::Materialise | Self::Balance(_) => 12,
         }
     }
 }
+
+/// Numbers that say that place 0 of the node set is none.
+pub const NONE_FIRST: [u32; 4] = [1, 2, 0x8000_0000, u32::MAX];
 
 impl Input for Case<'_> {
     fn call(&self) -> &'static str {
@@ -52,7 +59,8 @@ impl Input for Case<'_> {
         let (types, first, start) = (tree.types, tree.first_repeat, tree.start);
         let cells: Vec<&[u32]> = tree.cells.chunks(CELL_WIDTH).collect();
         let (cells, words) = (shortened(&cells), shortened(&tree.words));
-        format!("T {types}, F {first}, S {start}, cells {cells}, words {words}")
+        let call = self.call;
+        format!("{call}: T {types}, F {first}, S {start}, cells {cells}, words {words}")
     }
 
     fn weight(&self) -> (usize, u128) {
@@ -115,33 +123,6 @@ struct Slices {
     held: usize,
 }
 
-/// What the trees of a run held, to see that no shape is missing.
-#[derive(Default)]
-pub struct Seen {
-    pub trees: u64,
-    accepted: u64,
-    cells: u64,
-    parts: u64,
-    none: u64,
-    records: u64,
-    lines: u64,
-    balanced: u64,
-}
-
-impl std::fmt::Display for Seen {
-    fn fmt(&self, out: &mut std::fmt::Formatter<'_>) -> std::fmt::Result {
-        write!(out, "{} trees, {} accepted; ", self.trees, self.accepted)?;
-        write!(out, "in these {} cells, {} parts ", self.cells, self.parts)?;
-        write!(
-            out,
-            "of {} records, {} trees of kind 3, ",
-            self.records, self.none
-        )?;
-        write!(out, "{} lines; ", self.lines)?;
-        write!(out, "balancing changes {}", self.balanced)
-    }
-}
-
 #[derive(Default)]
 pub struct TreeSession {
     pub tally: Tally,
@@ -171,22 +152,34 @@ impl TreeSession {
         self.lent.stir(self.seen.trees);
         self.list(tree);
         let bad = model::bad_cell(tree.types, 0, true, &tree.cells, &tree.words);
-        let mut expected = Expected::new(Call::Materialise, bad, work_for(tree));
         if bad.is_some() || tree.types > 65_536 {
-            self.compare(tree, &expected);
-            expected.call = Call::Balance;
-            self.compare(tree, &expected);
-        } else if let Some(rust) = self.rust_tree(tree) {
-            self.note(tree);
-            self.balance(tree, &rust);
-            self.materialise(tree, &rust);
+            let [without, with] = self.balances();
+            for call in [Call::Materialise, without, with] {
+                self.compare(tree, &Expected::new(call, bad, work_for(tree)));
+            }
+        } else if let Some((rust, none_first)) = self.rust_trees(tree) {
+            self.seen.note(tree);
+            self.balance(tree, &rust, &none_first);
+            self.materialise(tree, &rust, &none_first);
         }
     }
 
+    /// Balance on a set without none in place 0 and on one with it.
+    fn balances(&self) -> [Call; 2] {
+        let turn = (self.seen.trees / 4) as usize % NONE_FIRST.len();
+        [0, NONE_FIRST[turn]].map(Call::Balance)
+    }
+
     /// Materialise on an accepted tree, and list on what it gives.
-    fn materialise(&mut self, tree: &Handed, rust: &crate::Tree) {
+    fn materialise(&mut self, tree: &Handed, rust: &crate::Tree, none_first: &NoneFirst) {
         let (cells, words) = rust_trees::cells_of(&rust.materialize());
         assert!(words.is_empty(), "a part in a materialised tree");
+        let (alike, _) = rust_trees::cells_of(&none_first.tree.materialize());
+        if alike != rust_trees::with_id_0_as_none(&cells) {
+            let call = "materialise";
+            let what = "the Rust materialises otherwise on the set with none in place 0";
+            self.tally.differ(&Case { call, tree }, what);
+        }
         let mut expected = Expected::new(Call::Materialise, None, work_for(tree));
         expected.counts = [cells.len() / CELL_WIDTH, 0];
         expected.written = cells;
@@ -198,15 +191,25 @@ impl TreeSession {
         });
     }
 
-    /// Balance on an accepted tree.
-    fn balance(&mut self, tree: &Handed, rust: &crate::Tree) {
-        let (cells, words) = rust_trees::cells_of(&rust.balance());
-        self.seen.balanced += u64::from(cells != tree.cells);
-        let mut expected = Expected::new(Call::Balance, None, work_for(tree));
-        expected.counts = [cells.len() / CELL_WIDTH, words.len()];
-        expected.written = cells;
-        expected.packed = words;
-        self.compare(tree, &expected);
+    /// Balance on an accepted tree, on both sets.
+    fn balance(&mut self, tree: &Handed, rust: &crate::Tree, none_first: &NoneFirst) {
+        let results = [flatten(&rust.balance()), none_first.balanced()];
+        let results = results.map(|flat| rust_trees::narrowed(&flat));
+        let [without, with] = &results;
+        self.seen.balanced(tree, [&without.0, &with.0]);
+        for (call, (cells, words)) in self.balances().into_iter().zip(results) {
+            let none_first = !matches!(call, Call::Balance(0));
+            if cells != balancing::balanced(none_first, &tree.cells) {
+                let call = call.name();
+                let what = "the model balances otherwise than the Rust";
+                self.tally.differ(&Case { call, tree }, what);
+            }
+            let mut expected = Expected::new(call, None, work_for(tree));
+            expected.counts = [cells.len() / CELL_WIDTH, words.len()];
+            expected.written = cells;
+            expected.packed = words;
+            self.compare(tree, &expected);
+        }
     }
 
     fn list(&mut self, tree: &Handed) {
@@ -244,18 +247,19 @@ impl TreeSession {
         None
     }
 
-    fn note(&mut self, tree: &Handed) {
-        let cells = || tree.cells.chunks(CELL_WIDTH);
-        let of_kind = |kind| cells().filter(|cell| cell[KIND] == kind).count() as u64;
-        self.seen.accepted += 1;
-        self.seen.cells += cells().count() as u64;
-        self.seen.parts += of_kind(2);
-        self.seen.none += of_kind(3);
-        self.seen.records += (tree.words.len() / RECORD_WIDTH) as u64;
+    /// The same, and its counterpart on the set with none in place 0.
+    fn rust_trees(&mut self, tree: &Handed) -> Option<(crate::Tree, NoneFirst)> {
+        let rust = self.rust_tree(tree)?;
+        let set = self.oracle.set_with(tree.types, true).ok()?;
+        let none_first = NoneFirst::new(&rust, &set);
+        Some((rust, none_first))
     }
 
     /// One call on slices that are just large enough, larger, and too short.
     fn compare(&mut self, tree: &Handed, expected: &Expected) {
+        if let Call::Balance(none_first) = expected.call {
+            self.seen.sets[usize::from(none_first != 0)].trees += 1;
+        }
         let just = Slices {
             work: expected.work,
             room: expected.written.len(),
@@ -324,7 +328,7 @@ impl TreeSession {
         let number = match expected.call {
             Call::Materialise => calls::materialise(tree, work, out, held),
             Call::List => calls::list(tree, work, out, held),
-            Call::Balance => calls::balance(tree, work, out, packed, held),
+            Call::Balance(none_first) => calls::balance(tree, none_first, work, out, packed, held),
         };
         let [first, second] = verdict.counts;
         let wanted = answered([verdict.place, first, second], lent.held);

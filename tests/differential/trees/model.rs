@@ -284,6 +284,9 @@ impl<'a> Rules<'a> {
 
     /// "words after the last part against that part's cell or cell 1"
     fn words_left(&self, cell: usize) -> bool {
+        if cell != 1 && self.cells[cell].kind != 2 {
+            return false;
+        }
         let last = self.cells.iter().rposition(|it| it.kind == 2);
         let end = last.map_or(0, |part| self.cells[part].first + self.cells[part].count);
         cell == last.unwrap_or(1) && end != self.words.len() as u64

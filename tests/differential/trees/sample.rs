@@ -5,20 +5,38 @@
 
 use std::sync::Arc;
 
+use crate::none_first::NoneFirst;
 use crate::oracle::Oracle;
 use crate::recording::{self, Taken};
 use crate::rezel::{Panicked, guarded};
 use crate::rng::Rng;
 use crate::tree::NodeSet;
-use crate::trees::compare::Call;
+use crate::trees::compare::{Call, NONE_FIRST};
 use crate::trees::model::{self, Handed};
-use crate::trees::{cases, rust_trees};
+use crate::trees::{balancing, cases, rust_trees};
 use crate::widths::{CELL_WIDTH, KIND, LINE_WIDTH, RECORD_WIDTH};
 use crate::{Tree, flatten, trees};
 
 /// The largest trees that are taken: words of cells, before and after, and packed words.
 const MOST_CELLS: usize = 30 * CELL_WIDTH;
 const MOST_WORDS: usize = 30 * RECORD_WIDTH;
+
+/// A top with eight leaves and a tree of id 0 that holds three leaves of kind 3: with none in place 0 the tree is divided.
+const NINE: [[u32; CELL_WIDTH]; 13] = [
+    [1, 1, 0, 11, 2, 9, 0],
+    [1, 1, 0, 1, 0, 0, 3],
+    [1, 1, 1, 1, 0, 0, 4],
+    [1, 1, 2, 1, 0, 0, 5],
+    [1, 1, 3, 1, 0, 0, 6],
+    [1, 1, 4, 1, 0, 0, 7],
+    [1, 1, 5, 1, 0, 0, 8],
+    [1, 1, 6, 1, 0, 0, 9],
+    [1, 1, 7, 1, 0, 0, 10],
+    [1, 0, 8, 3, 11, 3, 0],
+    [3, 0, 0, 1, 0, 0, 12],
+    [3, 0, 1, 1, 0, 0, 13],
+    [3, 0, 2, 1, 0, 0, 0],
+];
 
 pub struct Sample {
     oracle: Oracle,
@@ -52,7 +70,7 @@ impl Answer {
         match call {
             Call::Materialise => format!("cells {}", written.len() / CELL_WIDTH),
             Call::List => format!("lines {}", written.len() / LINE_WIDTH),
-            Call::Balance => {
+            Call::Balance(_) => {
                 let cells = written.len() / CELL_WIDTH;
                 format!("cells {cells} words {}", words.len())
             }
@@ -64,7 +82,7 @@ impl recording::Sample for Sample {
     const LINES: &str = "calls";
     const DRAWS: usize = 40_000;
 
-    /// Document 01's list P, built with each of its three bounds.
+    /// Document 01's list P, built with each of its three bounds, and nine children.
     fn examples(&mut self, rng: &mut Rng) {
         let one = [1, 0, 0, 6, 2, 1, 0, 2, 0, 0, 6, 0, 12, 0];
         let two = [
@@ -73,15 +91,17 @@ impl recording::Sample for Sample {
         let four = [
             1, 0, 0, 6, 2, 1, 0, 1, 3, 0, 6, 3, 2, 0, 1, 1, 0, 2, 0, 0, 4, 1, 2, 3, 2, 0, 0, 0,
         ];
-        let all: [(&[u32], &[u16]); 3] = [
-            (&one, &[3, 0, 6, 12, 1, 0, 2, 8, 2, 3, 5, 12]),
-            (&two, &[1, 0, 2, 4, 2, 3, 5, 8]),
-            (&four, &[]),
+        let nine = NINE.concat();
+        let all: [(u32, &[u32], &[u16]); 4] = [
+            (4, &one, &[3, 0, 6, 12, 1, 0, 2, 8, 2, 3, 5, 12]),
+            (4, &two, &[1, 0, 2, 4, 2, 3, 5, 8]),
+            (4, &four, &[]),
+            (2, &nine, &[]),
         ];
-        for (cells, words) in all {
+        for (types, cells, words) in all {
             let tree = Handed {
-                types: 4,
-                first_repeat: 4,
+                types,
+                first_repeat: types,
                 start: 0,
                 cells: cells.to_vec(),
                 words: words.to_vec(),
@@ -121,7 +141,10 @@ impl Sample {
         };
         let rust = self.rust(tree);
         let balanced = rust.clone().map(|rust| cells_answer(&rust.balance()));
-        self.agreed(rng, Call::Balance, tree, number, balanced);
+        self.agreed(rng, Call::Balance(0), tree, number, balanced);
+        let call = Call::Balance(rng.pick(&NONE_FIRST));
+        let balanced = self.none_first(tree, &rust);
+        self.agreed(rng, call, tree, number, balanced);
         let materialised = rust.and_then(|rust| guarded(|| rust.materialize()));
         let cells = materialised.clone().map(|rust| cells_answer(&rust));
         self.agreed(rng, Call::Materialise, tree, number, cells);
@@ -134,6 +157,18 @@ impl Sample {
     fn rust(&mut self, tree: &Handed) -> Result<Tree, Panicked> {
         let set = self.oracle.set(tree.types)?;
         guarded(|| rust_trees::tree_of(tree, &set))
+    }
+
+    /// What the Rust's tree is balanced to on the set with none in place 0.
+    fn none_first(
+        &mut self,
+        tree: &Handed,
+        rust: &Result<Tree, Panicked>,
+    ) -> Result<Answer, Panicked> {
+        let set = self.oracle.set_with(tree.types, true)?;
+        let rust = rust.as_ref().map_err(|&panicked| panicked)?;
+        let (written, words) = rust_trees::narrowed(&NoneFirst::new(rust, &set).balanced());
+        Ok(Answer { written, words })
     }
 
     /// Takes a call if it is accepted and the Rust answers, or refused and the Rust panics.
@@ -173,17 +208,21 @@ impl Sample {
             return;
         }
         let room = answer.written.len() + rng.pick(&[0, 0, 3]);
-        let changed = matches!(call, Call::Balance) && number == 0 && answer.written != tree.cells;
-        let kind = kind(call, tree, number, changed);
+        let change = match number {
+            0 => Change::of(call, tree, &answer.written),
+            _ => Change::No,
+        };
+        let kind = kind(call, tree, number, change);
         let asked = line(call, tree, room);
-        self.taken.take(kind, quota(call, number), asked, || {
+        let most = quota(call, number, change);
+        self.taken.take(kind, most, asked, || {
             let told = match number {
                 0 => answer.counted(call),
                 _ => String::from("refused"),
             };
             let out = recording::output(answer.written, room);
             let words = match call {
-                Call::Balance => {
+                Call::Balance(_) => {
                     format!(" :{}", recording::output(answer.words, tree.words.len()))
                 }
                 _ => String::new(),
@@ -199,16 +238,38 @@ fn cells_answer(tree: &Tree) -> Answer {
     Answer { written, words }
 }
 
-fn quota(call: Call, number: u32) -> usize {
+/// What a call changes in the cells of an accepted tree by balancing it.
+#[derive(Clone, Copy, Eq, PartialEq)]
+enum Change {
+    No,
+    Yes,
+    /// Other cells than on a node set without none in place 0.
+    Otherwise,
+}
+
+impl Change {
+    fn of(call: Call, tree: &Handed, written: &[u32]) -> Self {
+        let without_none = || balancing::balanced(false, &tree.cells);
+        match call {
+            Call::Balance(1..) if written != without_none() => Self::Otherwise,
+            Call::Balance(_) if written != tree.cells => Self::Yes,
+            _ => Self::No,
+        }
+    }
+}
+
+fn quota(call: Call, number: u32, change: Change) -> usize {
     match (call, number) {
-        (Call::Materialise | Call::Balance, 0) => 14,
+        (Call::Balance(1..), 0) if change != Change::Otherwise => 4,
+        (Call::Balance(1..), 1..) => 20,
+        (Call::Materialise | Call::Balance(_), 0) => 14,
         (Call::List, 0) => 40,
         _ => 60,
     }
 }
 
 /// Each number of parts and of trees of kind 3 is a kind of its own, up to a few, where a call is accepted.
-fn kind(call: Call, tree: &Handed, number: u32, changed: bool) -> String {
+fn kind(call: Call, tree: &Handed, number: u32, change: Change) -> String {
     let name = call.name();
     if number != 0 {
         return format!("{name} refused with {number}");
@@ -216,16 +277,25 @@ fn kind(call: Call, tree: &Handed, number: u32, changed: bool) -> String {
     let cells = || tree.cells.chunks(CELL_WIDTH);
     let of_kind = |kind| cells().filter(|cell| cell[KIND] == kind).count();
     let (parts, none) = (of_kind(2).min(3), of_kind(3).min(3));
-    let how = if changed { " that change" } else { "" };
+    let how = match change {
+        Change::No => "",
+        Change::Yes => " that change",
+        Change::Otherwise => " that change otherwise",
+    };
     format!("{name}, {parts} parts, {none} trees of kind 3{how}")
 }
 
+/// The number of the call, T, F, S, the room, the words of cells and packed words, and these. In a line of balance the
+/// number that says whether place 0 of the node set is none stands in the place of F.
 fn line(call: Call, tree: &Handed, room: usize) -> String {
+    let (number, second) = match call {
+        Call::Materialise => (1, tree.first_repeat),
+        Call::List => (2, tree.first_repeat),
+        Call::Balance(none_first) => (3, none_first),
+    };
     format!(
-        "{} {} {} {} {room} {} {}{}{}",
-        call as u32,
+        "{number} {} {second} {} {room} {} {}{}{}",
         tree.types,
-        tree.first_repeat,
         tree.start,
         tree.cells.len(),
         tree.words.len(),

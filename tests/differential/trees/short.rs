@@ -52,6 +52,13 @@ const LINKED: Alphabet = [
 /// Ranges alone, of a child with a child and a sibling.
 const RANGED: [&[u32]; 3] = [&[0, 1, 2], &[0, 1, 2, u32::MAX], &[0, 1, 2, u32::MAX]];
 
+/// Kinds and ids of a top, of a tree, and of a child that holds nothing.
+const TOPS: &[KindAndId] = &[(1, 0), (1, 1)];
+const TREES: &[KindAndId] = &[(1, 0), (1, 1), (3, 0)];
+const LEAVES: &[KindAndId] = &[(1, 0), (1, 1), (2, 0), (3, 0)];
+
+type KindAndId = (u32, u32);
+
 pub fn run(session: &mut TreeSession) {
     for types in [0, 1, 2, 65_536, 65_537, u32::MAX] {
         check(session, types, &[], &[]);
@@ -70,6 +77,7 @@ pub fn run(session: &mut TreeSession) {
         check(session, 1, cells, &[]);
     });
     ranges(session);
+    kinds(session);
 }
 
 fn check(session: &mut TreeSession, types: u32, cells: &[u32], words: &[u16]) {
@@ -106,4 +114,42 @@ fn ranges(session: &mut TreeSession) {
             words: Vec::new(),
         });
     });
+}
+
+/// Kinds and ids alone, of a top with nine children: the first, fifth or last of these holds three, of which the first
+/// holds two.
+fn kinds(session: &mut TreeSession) {
+    let letters = [TOPS, TREES, TREES, TREES, LEAVES, LEAVES, TREES, TREES];
+    for place in [0, 4, 8] {
+        spelling::words(&letters, |word| {
+            let cells = nine(place, word).concat();
+            check(session, 2, &cells, &[]);
+        });
+    }
+}
+
+fn nine(place: u32, word: &[KindAndId]) -> Vec<[u32; CELL_WIDTH]> {
+    let &[top, leaf, held, a, b, c, d, e] = word else {
+        unreachable!("a word has a letter for each alphabet");
+    };
+    let mut cells = vec![[top.0, top.1, 0, 12, 2, 9, 0]];
+    for child in 0..9 {
+        let at = cells.len() as u32 + 1;
+        let position = if child > place { child + 3 } else { child };
+        let behind = if child == place { at + 6 } else { at + 1 };
+        let next = if child == 8 { 0 } else { behind };
+        if child != place {
+            cells.push([leaf.0, leaf.1, position, 1, 0, 0, next]);
+            continue;
+        }
+        cells.extend([
+            [held.0, held.1, position, 4, at + 1, 3, next],
+            [a.0, a.1, 0, 2, at + 2, 2, at + 4],
+            [d.0, d.1, 0, 1, 0, 0, at + 3],
+            [e.0, e.1, 1, 1, 0, 0, 0],
+            [b.0, b.1, 2, 1, 0, 0, at + 5],
+            [c.0, c.1, 3, 1, 0, 0, 0],
+        ]);
+    }
+    cells
 }
