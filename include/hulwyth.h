@@ -198,7 +198,17 @@ uint32_t hulwyth_materialise(uint32_t types, const uint32_t *cells, size_t cells
  * under trees of no type. First count: the cells written; second count: the packed words written, as many as are handed in.
  * Refusals 1, 11, 15, 12, 13.
  *
+ * Where place 0 of the node set is the none type itself, a tree of kind 1 with id 0 counts as a tree of no type wherever types are
+ * compared. The trees that the call makes are of kind 3 on either set, and a cell that stays keeps its kind and id. But balancing
+ * may put the children of a tree of no type in its place: so on such a set a node of kind 1 with id 0 may vanish, and its line in
+ * hulwyth_list with it. On any other set every node of kind 1 stays.
+ *
+ * No other call takes the number. hulwyth_build compares ids with a repeat tree's own id alone and writes no tree of kind 3, so it
+ * gives the same tree on either set. hulwyth_materialise and hulwyth_list do not look at the set: id 0 is listed where it is below
+ * F.
+ *
  * types       T
+ * none_first  0: place 0 of the node set is not the none type; any other number: it is
  * cells       the cells
  * cells_len   their words
  * words       the packed words
@@ -212,9 +222,10 @@ uint32_t hulwyth_materialise(uint32_t types, const uint32_t *cells, size_t cells
  * info        place and counts
  * info_len    its words
  */
-uint32_t hulwyth_balance(uint32_t types, const uint32_t *cells, size_t cells_len, const uint16_t *words, size_t words_len,
-                         uint32_t *work, size_t work_len, uint32_t *out, size_t out_len,
-                         uint16_t *packed, size_t packed_len, uint32_t *info, size_t info_len);
+uint32_t hulwyth_balance(uint32_t types, uint32_t none_first, const uint32_t *cells, size_t cells_len,
+                         const uint16_t *words, size_t words_len, uint32_t *work, size_t work_len,
+                         uint32_t *out, size_t out_len, uint16_t *packed, size_t packed_len,
+                         uint32_t *info, size_t info_len);
 
 /* Lists a tree without packed parts: a line of depth, id, start and end for each node but the top, repeat trees and trees of no
  * type, parents first. The depth counts the listed nodes around it. First count: the lines. Refusals 1, 11, 15, 14.

@@ -1,7 +1,7 @@
 /* Materialises, lists and balances trees of about 1,000,000 cells: one chain, one row of siblings, and a top with nine children of
- * which one is a chain of trees of no type, so that balancing divides it; builds lists of 1,000,000 records. Prints the counts; a
- * count that is not the one due is followed by WRONG, and the status is then 1. Run by tests/c/large under a native stack of
- * 8 MiB. */
+ * which one is a chain of trees of no type, or of id 0 on a node set with none in place 0, so that balancing divides it; builds
+ * lists of 1,000,000 records. Prints the counts; a count that is not the one due is followed by WRONG, and the status is then 1.
+ * Run by tests/c/large under a native stack of 8 MiB. */
 #include "hulwyth.h"
 
 #include <stdio.h>
@@ -58,11 +58,11 @@ static size_t siblings(void) {
     return MANY + 1;
 }
 
-/* A top with eight leaves and, as the fifth of nine children, a chain of trees of no type. */
-static size_t nine(void) {
+/* A top with eight leaves and, as the fifth of nine children, a chain of trees of a kind, with id 0. */
+static size_t nine(uint32_t kind) {
     put(1, 1, 0, 0, 9, 2, 9, 0);
     for (uint32_t i = 0; i < 4; i++) put(i + 2, 1, 1, i, 1, 0, 0, i + 3);
-    put_chain(6, MANY, 3, 0, 4, MANY + 6);
+    put_chain(6, MANY, kind, 0, 4, MANY + 6);
     for (uint32_t i = 0; i < 4; i++) put(MANY + 6 + i, 1, 1, 5 + i, 1, 0, 0, i == 3 ? 0 : MANY + 7 + i);
     return MANY + 9;
 }
@@ -100,8 +100,9 @@ static void say(const char *what, uint32_t number, uint64_t place, uint64_t coun
     printf("\n");
 }
 
-/* All three calls on the tree that stands in `cells`. What is due: cells of the balanced tree and children of its top, lines. */
-static void run(const char *what, size_t count, uint64_t balanced, uint64_t held, uint64_t listed) {
+/* All three calls on the tree that stands in `cells`, with none in place 0 of the node set or without it. What is due: cells of the
+ * balanced tree and children of its top, lines. */
+static void run(const char *what, size_t count, uint32_t none_first, uint64_t balanced, uint64_t held, uint64_t listed) {
     size_t given = count * HULWYTH_CELL_WIDTH;
     uint32_t info[3];
     printf("%s\n", what);
@@ -109,7 +110,7 @@ static void run(const char *what, size_t count, uint64_t balanced, uint64_t held
     say("cells materialised", number, info[0], info[1], count);
     number = hulwyth_list(4, 4, 0, cells, given, work, work_len, lines, lines_len, info, 3);
     say("lines listed", number, info[0], info[1], listed);
-    number = hulwyth_balance(4, cells, given, NULL, 0, work, work_len, out, cells_len, NULL, 0, info, 3);
+    number = hulwyth_balance(4, none_first, cells, given, NULL, 0, work, work_len, out, cells_len, NULL, 0, info, 3);
     say("cells balanced", number, info[0], info[1], balanced);
     say("children of the top", number, info[0], out[HULWYTH_COUNT], held);
     fflush(stdout);
@@ -155,12 +156,13 @@ int main(void) {
     out = words32(cells_len);
     lines = words32(lines_len);
     words = words32(records_len / 2);
-    run("a chain of 1000000 trees of no type", chain(3, 0), MANY + 1, 1, 0);
-    run("a chain of 1000000 trees of id 1", chain(1, 1), MANY + 1, 1, MANY);
-    run("1000000 siblings", siblings(), 1 + below(MANY), children(MANY), MANY);
+    run("a chain of 1000000 trees of no type", chain(3, 0), 0, MANY + 1, 1, 0);
+    run("a chain of 1000000 trees of id 1", chain(1, 1), 0, MANY + 1, 1, MANY);
+    run("1000000 siblings", siblings(), 0, 1 + below(MANY), children(MANY), MANY);
     /* The chain is divided in place until what is left of it is no larger than the share; four leaves on each side are grouped. */
     uint64_t share = (3 * (uint64_t)(MANY + 8) + 15) / 16;
-    run("nine children, the fifth a chain of 1000000 trees of no type", nine(), 1 + 5 + share + 5, 3, 8);
+    run("nine children, the fifth a chain of 1000000 trees of no type", nine(3), 0, 1 + 5 + share + 5, 3, 8);
+    run("the same with trees of id 0, and none in place 0", nine(1), 1, 1 + 5 + share + 5, 3, 8 + MANY);
     build_chain();
     build_siblings();
     build_short();

@@ -1,6 +1,7 @@
-/* The gateway's shape: makes each of the eight calls on document 01's examples, with slices of its own, and prints what it gives: a
- * line with the number, the place and the counts, and under it what the call wrote. With the argument `short` the work slice of a
- * call is one word short of what it asks for; the program then stops after the first call, with status 1. */
+/* The gateway's shape: makes each of the eight calls on document 01's examples, and balances and lists one more tree on a node set
+ * without none in place 0 and on one with it. The slices are its own. It prints what each call gives: a line with the number, the
+ * place and the counts, and under it what the call wrote. With the argument `short` the work slice of a call is one word short of
+ * what it asks for; the program then stops after the first call, with status 1. */
 #include <inttypes.h>
 #include <stdio.h>
 #include <string.h>
@@ -15,9 +16,10 @@ enum {
     TOP = 0,
     RECORDS = 3,
     WORDS = HULWYTH_RECORD_WIDTH * RECORDS, /* the packed words of so many records at most */
-    CELLS = 2 * RECORDS + 1,                /* the cells of so many records at most, before and after materialising */
     LEAVES = 11,
-    BALANCED = 2 * LEAVES + 1, /* the cells of a top with so many leaves at most, balanced */
+    NINE = 9, /* the children of a top of which the last one holds HELD more */
+    HELD = 3,
+    CELLS = 2 * (1 + NINE + HELD), /* no tree here has more cells: balancing makes at most twice as many */
 };
 
 /* The words of work for so many items. */
@@ -25,8 +27,9 @@ enum {
 
 static const uint32_t P[HULWYTH_RECORD_WIDTH * RECORDS] = {1, 0, 2, 4, 2, 3, 5, 4, 3, 0, 6, 12};
 
-/* A tree, as cells and packed words. */
+/* A tree, as cells and packed words, and the number of its types. No id of it is a repeat id. */
 struct tree {
+    uint32_t types;
     uint32_t cells[HULWYTH_CELL_WIDTH * CELLS];
     uint16_t words[WORDS];
     size_t cell_count, word_count;
@@ -69,6 +72,7 @@ static int build(struct tree *tree, size_t held_back)
                                     tree->cells, HULWYTH_CELL_WIDTH * CELLS, tree->words, WORDS, info, 3);
     if (!accepted("build", number, info))
         return 0;
+    tree->types = TYPES;
     tree->cell_count = info[1];
     tree->word_count = info[2];
     print_rows(tree->cells, tree->cell_count, HULWYTH_CELL_WIDTH);
@@ -81,10 +85,11 @@ static int materialise(const struct tree *tree, struct tree *made, size_t held_b
 {
     uint32_t work[WORK(CELLS + RECORDS)], info[3];
     size_t lent = WORK(tree->cell_count + tree->word_count / HULWYTH_RECORD_WIDTH) - held_back;
-    uint32_t number = hulwyth_materialise(TYPES, tree->cells, HULWYTH_CELL_WIDTH * tree->cell_count, tree->words, tree->word_count,
-                                          work, lent, made->cells, HULWYTH_CELL_WIDTH * CELLS, info, 3);
+    uint32_t number = hulwyth_materialise(tree->types, tree->cells, HULWYTH_CELL_WIDTH * tree->cell_count, tree->words,
+                                          tree->word_count, work, lent, made->cells, HULWYTH_CELL_WIDTH * CELLS, info, 3);
     if (!accepted("materialise", number, info))
         return 0;
+    made->types = tree->types;
     made->cell_count = info[1];
     made->word_count = 0;
     print_rows(made->cells, made->cell_count, HULWYTH_CELL_WIDTH);
@@ -93,39 +98,81 @@ static int materialise(const struct tree *tree, struct tree *made, size_t held_b
 
 static int list(const struct tree *tree, size_t held_back)
 {
-    uint32_t work[WORK(CELLS)], lines[HULWYTH_LINE_WIDTH * RECORDS], info[3];
+    uint32_t work[WORK(CELLS)], lines[HULWYTH_LINE_WIDTH * CELLS], info[3];
     size_t lent = WORK(tree->cell_count) - held_back;
-    uint32_t number = hulwyth_list(TYPES, FIRST_REPEAT, START, tree->cells, HULWYTH_CELL_WIDTH * tree->cell_count, work, lent,
-                                   lines, HULWYTH_LINE_WIDTH * RECORDS, info, 3);
+    uint32_t number = hulwyth_list(tree->types, tree->types, START, tree->cells, HULWYTH_CELL_WIDTH * tree->cell_count, work, lent,
+                                   lines, HULWYTH_LINE_WIDTH * CELLS, info, 3);
     if (!accepted("list", number, info))
         return 0;
     print_rows(lines, info[1], HULWYTH_LINE_WIDTH);
     return 1;
 }
 
-/* The cells of a top with so many leaves of length 1. */
-static void put_leaves(uint32_t *cells, uint32_t leaves)
+/* One more cell. */
+static void put(struct tree *tree, uint32_t kind, uint32_t id, uint32_t position, uint32_t length, uint32_t first, uint32_t count,
+                uint32_t next)
 {
-    const uint32_t top[HULWYTH_CELL_WIDTH] = {1, TOP, 0, leaves, 2, leaves, 0};
-    memcpy(cells, top, sizeof top);
-    for (uint32_t i = 0; i < leaves; i++) {
-        const uint32_t leaf[HULWYTH_CELL_WIDTH] = {1, 1, i, 1, 0, 0, i + 1 == leaves ? 0 : i + 3};
-        memcpy(cells + HULWYTH_CELL_WIDTH * (i + 1), leaf, sizeof leaf);
-    }
+    const uint32_t cell[HULWYTH_CELL_WIDTH] = {kind, id, position, length, first, count, next};
+    memcpy(tree->cells + HULWYTH_CELL_WIDTH * tree->cell_count, cell, sizeof cell);
+    tree->cell_count++;
 }
 
-/* Balances a top with so many leaves: no packed words are handed in, and none are written. */
-static int balance(uint32_t leaves, size_t held_back)
+/* So many leaves of length 1, side by side from 0 on; `more`: a sibling follows the last of them. */
+static void put_leaves(struct tree *tree, uint32_t kind, uint32_t leaves, int more)
 {
-    uint32_t cells[HULWYTH_CELL_WIDTH * (LEAVES + 1)], out[HULWYTH_CELL_WIDTH * BALANCED], work[WORK(LEAVES + 1)], info[3];
-    size_t lent = WORK(leaves + 1) - held_back;
-    put_leaves(cells, leaves);
-    uint32_t number = hulwyth_balance(TYPES, cells, HULWYTH_CELL_WIDTH * (leaves + 1), NULL, 0, work, lent, out,
-                                      HULWYTH_CELL_WIDTH * BALANCED, NULL, 0, info, 3);
+    for (uint32_t i = 0; i < leaves; i++)
+        put(tree, kind, kind == 1, i, 1, 0, 0, i + 1 < leaves || more ? (uint32_t)tree->cell_count + 2 : 0);
+}
+
+/* A top with so many leaves. */
+static void leaves(struct tree *tree, uint32_t count)
+{
+    tree->types = TYPES;
+    tree->cell_count = tree->word_count = 0;
+    put(tree, 1, TOP, 0, count, 2, count, 0);
+    put_leaves(tree, 1, count, 0);
+}
+
+/* A top of id 1 with eight leaves of id 1 and, as its ninth child, a tree of kind 1 with id 0 that holds three leaves of kind 3. */
+static void nine(struct tree *tree)
+{
+    tree->types = 2;
+    tree->cell_count = tree->word_count = 0;
+    put(tree, 1, 1, 0, NINE - 1 + HELD, 2, NINE, 0);
+    put_leaves(tree, 1, NINE - 1, 1);
+    put(tree, 1, 0, NINE - 1, HELD, NINE + 2, HELD, 0);
+    put_leaves(tree, 3, HELD, 0);
+}
+
+/* Balances a tree without packed words, with none in place 0 of the node set or without it. */
+static int balance(const struct tree *tree, uint32_t none_first, struct tree *made, size_t held_back)
+{
+    uint32_t work[WORK(CELLS)], info[3];
+    size_t lent = WORK(tree->cell_count) - held_back;
+    uint32_t number = hulwyth_balance(tree->types, none_first, tree->cells, HULWYTH_CELL_WIDTH * tree->cell_count, NULL, 0, work,
+                                      lent, made->cells, HULWYTH_CELL_WIDTH * CELLS, NULL, 0, info, 3);
     if (!accepted("balance", number, info))
         return 0;
-    printf("  %" PRIu32 " leaves became %" PRIu32 " children\n", leaves, out[HULWYTH_COUNT]);
+    made->types = tree->types;
+    made->cell_count = info[1];
+    made->word_count = 0;
+    printf("  %" PRIu32 " children became %" PRIu32 "\n", tree->cells[HULWYTH_COUNT], made->cells[HULWYTH_COUNT]);
     return 1;
+}
+
+/* Balances, materialises and lists the nine children. With none in place 0 the ninth is divided, and its line goes. */
+static int balance_nine(uint32_t none_first, size_t held_back)
+{
+    struct tree tree, balanced, made;
+    nine(&tree);
+    return balance(&tree, none_first, &balanced, held_back) && materialise(&balanced, &made, held_back) && list(&made, held_back);
+}
+
+static int balance_leaves(uint32_t count, size_t held_back)
+{
+    struct tree tree, made;
+    leaves(&tree, count);
+    return balance(&tree, 0, &made, held_back);
 }
 
 static int part_check(const struct tree *tree)
@@ -160,7 +207,9 @@ int main(int argc, char **argv)
 
     if (!check(held_back) || !build(&tree, held_back) || !materialise(&tree, &made, held_back) || !list(&made, held_back))
         return 1;
-    if (!balance(LEAVES - 1, held_back) || !balance(LEAVES, held_back) || !part_check(&tree))
+    if (!balance_leaves(LEAVES - 1, held_back) || !balance_leaves(LEAVES, held_back))
+        return 1;
+    if (!balance_nine(0, held_back) || !balance_nine(1, held_back) || !part_check(&tree))
         return 1;
     part_slice(&tree, 4, 12, 0);
     part_slice(&tree, 0, 8, 0);

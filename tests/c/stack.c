@@ -51,8 +51,8 @@ static void materialise(void)
 
 static void balance(void)
 {
-    number = hulwyth_balance(4, cells, HULWYTH_CELL_WIDTH * cell_count, words, word_count, work, work_len, out, cells_len, packed,
-                             records_len, info, 3);
+    number = hulwyth_balance(4, 0, cells, HULWYTH_CELL_WIDTH * cell_count, words, word_count, work, work_len, out, cells_len,
+                             packed, records_len, info, 3);
 }
 
 static void list(void)
