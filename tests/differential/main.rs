@@ -95,7 +95,7 @@ fn run(options: &Options) -> ExitCode {
     match options.command.as_str() {
         "parts" => parts::run(seed, cases(6_000_000)),
         "lists" => lists::run(seed, cases(6_000_000)),
-        "trees" => trees::run(seed, cases(300_000)),
+        "trees" => trees::run(seed, cases(600_000)),
         "builds" => builds::run(seed, cases(12_000_000)),
         "bench-parts" => parts::bench::run(seed),
         "bench-lists" => lists::bench::run(seed),

@@ -260,6 +260,12 @@ impl TreeSession {
         if let Call::Balance(none_first) = expected.call {
             self.seen.sets[usize::from(none_first != 0)].trees += 1;
         }
+        for lent in self.slices(expected) {
+            self.call(tree, expected, &lent);
+        }
+    }
+
+    fn slices(&self, expected: &Expected) -> Vec<Slices> {
         let just = Slices {
             work: expected.work,
             room: expected.written.len(),
@@ -295,9 +301,7 @@ impl TreeSession {
             with(|it| it.packed -= 1);
             with(|it| (it.room, it.packed) = (it.room - 1, 0));
         }
-        for lent in &calls {
-            self.call(tree, expected, lent);
-        }
+        calls
     }
 
     /// Whether the library answers and writes what is expected on slices of one size and filling.
