@@ -198,17 +198,17 @@ uint32_t hulwyth_materialise(uint32_t types, const uint32_t *cells, size_t cells
  * under trees of no type. First count: the cells written; second count: the packed words written, as many as are handed in.
  * Refusals 1, 11, 15, 12, 13.
  *
- * Where place 0 of the node set is the none type itself, a tree of kind 1 with id 0 counts as a tree of no type wherever types are
- * compared. The trees that the call makes are of kind 3 on either set, and a cell that stays keeps its kind and id. But balancing
- * may put the children of a tree of no type in its place: so on such a set a node of kind 1 with id 0 may vanish, and its line in
- * hulwyth_list with it. On any other set every node of kind 1 stays.
+ * Where place 0 of the node set is none, the type of the trees of kind 3, a tree of kind 1 with id 0 counts as a tree of no type
+ * wherever types are compared. The trees that the call makes are of kind 3 on either set, and a cell that stays keeps its kind and
+ * id. But balancing may put the children of a tree of no type in its place: so on such a set a node of kind 1 with id 0 may vanish,
+ * and its line in hulwyth_list with it. On any other set every node of kind 1 stays.
  *
  * No other call takes the number. hulwyth_build compares ids with a repeat tree's own id alone and writes no tree of kind 3, so it
  * gives the same tree on either set. hulwyth_materialise and hulwyth_list do not look at the set: id 0 is listed where it is below
  * F.
  *
  * types       T
- * none_first  0: place 0 of the node set is not the none type; any other number: it is
+ * none_first  0: place 0 of the node set is not none; any other number: it is
  * cells       the cells
  * cells_len   their words
  * words       the packed words
