@@ -3,7 +3,8 @@
 //   call T F S room n m cells words
 // where call is 1 for materialise, 2 for listing and 3 for balancing, T the number of types, F the first repeat id, S the start
 // of a listing, room the number of words that the output has, which hold 7 before, n that of the cells' words and m that of the
-// packed words. Materialise and balance use no F and S, listing no packed words; balance has a second output of m packed words.
+// packed words. Materialise uses no F and S, listing no packed words. For balance F says whether place 0 of the set is none, 0 that it
+// is not, and S is not used; it has a second output of m packed words.
 // n is at most 700, m at most 400 and room at most 1,400; a packed word has 16 bits and every other number 32. The whole text
 // is at most 1 MiB. Any other line is a bad one.
 ghost use mathlib.Core.Path.{_≡_};
