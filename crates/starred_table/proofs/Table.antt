@@ -1,5 +1,6 @@
 -- The starred examples of document 01, computed from the definitions that the public contracts cite. Assumes nothing.
 use mathlib.Core.Path.{_≡_, refl}
+use mathlib.Core.Bool.{false}
 use mathlib.Core.List.{List, [], _∷_, _++_}
 use Prim.Native.Nat.{ℕ, zero, suc, _+_}
 use Rattle.words.specs.Outcome.{accepted, refused}
