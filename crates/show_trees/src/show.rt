@@ -1,4 +1,5 @@
 // Runs a call and prints what it answers: a listing's lines, a tree's cells, each on a line of its own.
+ghost use Prim.Native.Nat.{_<_};
 use balance::Balanced;
 use listing::Listed;
 use materialize::Materialized;
@@ -25,20 +26,14 @@ fn wide(word: u32) -> u64 {
     word as u64
 }
 
-// Whether the word at a place is the last one of a row of so many.
-fn ends_row(i: usize, row: usize) -> bool {
-    if row == 0 {
-        return false;
-    }
-    i % row == row - 1
-}
-
 // Words, so many to a line.
-fn print_rows(words: &[u32], row: usize) {
+fn print_rows(words: &[u32], row: usize)
+    requires { ⌜ 0 < row ⌝ }
+{
     let mut i: usize = 0;
     while i < words.len() {
         print_number(b" ", wide(words[i]));
-        if ends_row(i, row) {
+        if i % row == row - 1 {
             print(b"\n");
         }
         i += 1;
