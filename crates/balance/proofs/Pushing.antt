@@ -14,11 +14,11 @@ use Rattle.store.specs.Store.{Holds, Staged, Same, Readable, PushedTree, Pushed
 use Rattle.store.proofs.Frame.{same-less, staged-frame, frame}
 use Rattle.store.proofs.Types.{not-part}
 use Rattle.rules.specs.Calls.{handed-in}
-use Rattle.balance.specs.Steps.{bases, onwards, Given, kind-stored, id-stored, address, Based, Building}
+use Rattle.balance.specs.Steps.{bases, onwards, Given, kind-stored, address, Based, Building}
 use Rattle.balance.proofs.Sites.{Leads, TreeAt, PartAt, Site}
 use Rattle.balance.proofs.Handed.{Handed, handed}
 use Rattle.balance.proofs.Noting.{leads-in}
-use Rattle.balance.proofs.Typing.{kind-as, id-as}
+use Rattle.balance.proofs.Typing.{kind-as}
 
 pub address-none : (high x : ℕ) → x ≡ 0 → address high x ≡ 0
 unfolding address
@@ -140,13 +140,13 @@ module _ (f : Bool) (held cs ws : List ℕ) (n high low i : ℕ) (l : i < n) (b 
         built-more held′ top r top-is (p .kept) (p .address) (rw (t .here, ← starts, ← (t .len-is)) new)
 
     pub pushed-tree : (other : cell-kind cs i ≡ 2 → ⊥) (first : ℕ) → first ≡ address high (cell-first cs i)
-        → PushedTree held held′ top (kind-stored f (cell-kind cs i) (cell-id cs i)) (id-stored f (cell-kind cs i) (cell-id cs i)) start (cell-length cs i) first next r → Building f held′ cs ws n high low i
+        → PushedTree held held′ top (kind-stored f (cell-kind cs i) (cell-id cs i)) (cell-id cs i) start (cell-length cs i) first next r → Building f held′ cs ws n high low i
     pushed-tree other first first-is p =
         let t = tree-site other in
         let starts : start ≡ t .start = omega (arith, start-is, b .based i l, t .start-is) in
         let later : Holds f held n top low next (t .rest) = rw (next-is, top-is) (link-held f held cs ws n high low (i + 1) b i (getD bs₁ i 0) (t .rest) (cell-next cs i) (omega arith) (t .next-is)) in
         let inner : Holds f held n top low first (t .kids) = rw (first-is, top-is) (link-held f held cs ws n high low (i + 1) b i (t .start) (t .kids) (cell-first cs i) (omega arith) (t .first-is)) in
-        let new = p .holds f n low (t .type) (t .kids) (t .rest) (omega (arith, l)) (omega (arith, top-is, b .high-is)) (omega (arith, top-is, b .high-is, b .under)) (kind-as f (t .type) (t .kind-is) (t .id-is)) (id-as f (t .type) (t .kind-is) (t .id-is)) inner later in
+        let new = p .holds f n low (t .type) (t .kids) (t .rest) (omega (arith, l)) (omega (arith, top-is, b .high-is)) (omega (arith, top-is, b .high-is, b .under)) (kind-as f (t .type) (t .kind-is) (t .id-is)) (t .id-is) inner later in
         built-more held′ top r top-is (p .kept) (p .address) (rw (t .here, ← starts, ← (t .len-is)) new)
 
 -- before the first node

@@ -17,12 +17,12 @@ use Rattle.store.specs.Store.{Holds}
 use Rattle.balance_core.specs.Rows.{Row}
 use Rattle.balance_core.specs.Ready.{BalanceReady, Balanced}
 use Rattle.rules.specs.Calls.{handed-in}
-use Rattle.balance.specs.Steps.{bases, onwards, kind-stored, id-stored, address, Building, Standing}
+use Rattle.balance.specs.Steps.{bases, onwards, kind-stored, address, Building, Standing}
 use Rattle.balance.proofs.Sites.{Leads, TreeAt, PartAt}
 use Rattle.balance.proofs.Handed.{Handed, handed}
 use Rattle.balance.proofs.Noting.{leads-in}
 use Rattle.balance.proofs.Pushing.{link-held}
-use Rattle.balance.proofs.Typing.{kind-as, id-as, none-kind, none-id}
+use Rattle.balance.proofs.Typing.{kind-as, none-kind}
 
 divides : (f : Bool) (t : Option ℕ) (s l : ℕ) (kids rest : Trees) → 8 < siblings kids
     → balanced f (tree t s l kids rest) ≡ balance (in-set f t) (in-set f none) s l kids ⊕ rest
@@ -159,7 +159,7 @@ module _ (f : Bool) (held cs ws : List ℕ) (n high low : ℕ) (b : Building f h
       holds = row-held;
       counted = sym (top .count-is);
       kind-is = none-kind f;
-      id-is = none-id f;
+      id-is = refl;
       few = omega (arith, row-small, room, b .fits);
       ends = h .ends;
     }
@@ -171,13 +171,13 @@ module _ (f : Bool) (held cs ws : List ℕ) (n high low : ℕ) (b : Building f h
     unfolding row
     row-total r f = f row
 
-    module _ (size okd oi : ℕ) (size-is : size ≡ total (in-set f none) (h .kids)) (kind-is : okd ≡ kind-stored f 1 (getD cs 1 0)) (id-is : oi ≡ id-stored f 1 (getD cs 1 0)) where
-      abbrev ready : BalanceReady held high low kids (getD cs 5 0) 3 0 okd oi size 0
+    module _ (size okd : ℕ) (size-is : size ≡ total (in-set f none) (h .kids)) (kind-is : okd ≡ kind-stored f 1 (getD cs 1 0)) where
+      abbrev ready : BalanceReady held high low kids (getD cs 5 0) 3 0 okd (getD cs 1 0) size 0
       unfolding kind id-word
       ready = record {
         own = some (h .top);
         own-kind = kind-is ∙ kind-as f (some (h .top)) refl (top .id-is);
-        own-id = id-is ∙ id-as f (some (h .top)) refl (top .id-is);
+        own-id = top .id-is;
         row = record {
           base = n;
           low = low;
@@ -192,7 +192,7 @@ module _ (f : Bool) (held cs ws : List ℕ) (n high low : ℕ) (b : Building f h
           inside = b .inside;
           fits = omega (arith, b .fits);
           kind-is = none-kind f;
-          id-is = none-id f;
+          id-is = refl;
           holds = row-held;
           onto = refl;
           counted = sym (top .count-is);
@@ -204,10 +204,10 @@ module _ (f : Bool) (held cs ws : List ℕ) (n high low : ℕ) (b : Building f h
         };
       }
 
-      pub range-ready : BalanceReady held high low kids (getD cs 5 0) 3 0 okd oi size 0
+      pub range-ready : BalanceReady held high low kids (getD cs 5 0) 3 0 okd (getD cs 1 0) size 0
       range-ready = ready
 
-      pub divided-standing : (held′ : List ℕ) (rtop rnode : ℕ) → Balanced held held′ high low kids (getD cs 5 0) 3 0 okd oi 0 (getD cs 3 0) size 0 rtop rnode
+      pub divided-standing : (held′ : List ℕ) (rtop rnode : ℕ) → Balanced held held′ high low kids (getD cs 5 0) 3 0 okd (getD cs 1 0) 0 (getD cs 3 0) size 0 rtop rnode
           → Standing held′ rtop rnode (balanced f (handed-in cs ws))
       unfolding ready
       divided-standing held′ rtop rnode p =

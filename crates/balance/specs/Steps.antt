@@ -55,13 +55,9 @@ pub record Linked (cs held : List ℕ) (i : ℕ) : Type 0 where
 abbrev pub Based : (held : List ℕ) (n : ℕ) → Trees → Type 0
 Based held n ts = (k : ℕ) → k < n → getD held k 0 ≡ getD (bases 0 ts) k 0
 
--- The kind and id by which the store has the type of a cell: where place 0 of the set is none, kind 1 with id 0 has the kind of none
--- and the id 1.
+-- The kind by which the store has a cell of kind 1 or 3: where place 0 of the set is none, 7 for kind 1 with id 0.
 abbrev pub kind-stored : (none-first : Bool) (kind id : ℕ) → ℕ
-kind-stored f k i = cond f (cond (eqb i 0) 3 k) k
-
-abbrev pub id-stored : (none-first : Bool) (kind id : ℕ) → ℕ
-id-stored f k i = cond f (cond (eqb k 1) (cond (eqb i 0) 1 i) i) i
+kind-stored f k i = cond f (cond (eqb k 1) (cond (eqb i 0) 7 k) k) k
 
 -- Where the node of cell x stands, counted from 1, if nodes go up to `high`; 0 for none.
 unfoldable pub address : (high x : ℕ) → ℕ

@@ -11,7 +11,7 @@ ghost use Rattle.tree.specs.Balance.{balanced};
 ghost use Rattle.store.specs.Store.{Staged, Same, Readable, PushedTree, node-width};
 ghost use Rattle.rules.specs.Calls.{handed-in, balance-call};
 ghost use Rattle.balance.specs.Answer.{balanced-outcome};
-ghost use Rattle.balance.specs.Steps.{Given, noted, Linked, links-noted, Based, kind-stored, id-stored, address, Building, Standing, settled-tree, Lent};
+ghost use Rattle.balance.specs.Steps.{Given, noted, Linked, links-noted, Based, kind-stored, address, Building, Standing, settled-tree, Lent};
 use balance_core::Made;
 use store::FIRST_OF_SET;
 use store::NODE_CELLS;
@@ -99,31 +99,18 @@ fn node_of(high: u32, x: u32) -> u32
     high - x * NODE_WIDTH
 }
 
-// The kind by which the store has the type of a cell: where place 0 of the set is none, id 0 has that of none.
+// The kind by which the store has a tree's cell: where place 0 of the set is none, that of kind 1 with id 0 compares as none.
 fn stored_kind(none_first: bool, kind: u32, id: u32) -> u32
     ensures { λ r. ⌜ r ≡ kind-stored «none_first» kind id ⌝ }
 {
     if !none_first {
         return kind;
     }
-    if id != 0 {
+    if kind != 1 {
         return kind;
     }
-    NONE
-}
-
-// The id: kind 1 with id 0 stays apart there from kind 3.
-fn stored_id(none_first: bool, kind: u32, id: u32) -> u32
-    ensures { λ r. ⌜ r ≡ id-stored «none_first» kind id ⌝ }
-{
-    if !none_first {
-        return id;
-    }
-    if kind != 1 {
-        return id;
-    }
     if id != 0 {
-        return id;
+        return kind;
     }
     FIRST_OF_SET
 }
@@ -143,11 +130,10 @@ fn push_typed(
     requires { ⌜ top + node-width ≤ lib.ListN.length (now work) ⌝ }
     requires { ⌜ Readable (now work) kids ⌝ }
     requires { ⌜ Readable (now work) next ⌝ }
-    ensures { λ r. ⌜ PushedTree (now (work .entry)) (now (work .exit)) top (kind-stored «none_first» kind id) (id-stored «none_first» kind id) start length kids next r ⌝ }
+    ensures { λ r. ⌜ PushedTree (now (work .entry)) (now (work .exit)) top (kind-stored «none_first» kind id) id start length kids next r ⌝ }
 {
     let own_kind = stored_kind(none_first, kind, id);
-    let own_id = stored_id(none_first, kind, id);
-    store::push_tree(work, top, own_kind, own_id, start, length, kids, next)
+    store::push_tree(work, top, own_kind, id, start, length, kids, next)
 }
 
 // Adds the node of cell i before those of the cells after it.
@@ -214,7 +200,7 @@ fn rebuild(none_first: bool, cells: &[u32], high: u32, low: u32, work: &mut [u32
     let size = balance_core::row_size(&*work, kids, count, NONE, 0);
     let own = balance_core::Parent {
         kind: stored_kind(none_first, 1, cells[ID]),
-        id: stored_id(none_first, 1, cells[ID]),
+        id: cells[ID],
         start: 0,
         length: cells[LENGTH],
     };

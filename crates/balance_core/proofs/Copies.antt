@@ -7,8 +7,7 @@ use native.Mathlib.Omega.{arith}
 use lib.ListN.{length, getD}
 use Rattle.tree.specs.Trees.{Trees, nil, tree, part, _⊕_, siblings}
 use Rattle.store.specs.Store.{Holds, Readable, PushedTree, PushedPart}
-use Rattle.tree.specs.Balance.{type-under}
-use Rattle.store.proofs.Types.{not-part}
+use Rattle.store.proofs.Types.{no-part-kind}
 use Rattle.store.proofs.Frame.{readable}
 use Rattle.balance_core.specs.Ready.{CopyReady, Copied}
 use Rattle.balance_core.proofs.Lists.{siblings-none, siblings-⊕}
@@ -74,7 +73,7 @@ module _ {w : List ℕ} {node kd i s l a : ℕ} (ek : kd ≡ getD w (node + 0) 0
       go : (p : CopyReady w top node next) (first : Trees) → siblings first ≡ 1 → Holds (p .none-first) w (p .base) top (p .low) node (first ⊕ p .tail)
           → Holds (p .none-first) w′ (p .base) (top + 10) (p .low) r (first ⊕ p .rest)
       go p nil one h = absurd (omega arith)
-      go p (tree u s′ l′ ks more) one h = absurd (not-part (type-under (p .none-first) u) (sym (h .node .kind-at) ∙ sym (ek ∙ first-word w node) ∙ k))
+      go p (tree u s′ l′ ks more) one h = absurd (no-part-kind (p .none-first) u (sym (h .node .kind-at) ∙ sym (ek ∙ first-word w node) ∙ k))
       go p (part s′ l′ ws more) one h =
           let z : more ≡ nil = siblings-none more (omega arith) in
           let fs : s′ ≡ s = sym (es ∙ h .node .start-at) in

@@ -9,8 +9,9 @@ use borrow.Author.Tests.{lt-ltb, le-ltb}
 use lib.Dec.{ltb}
 use lib.ListN.{getD}
 use Rattle.tree.specs.Trees.{Trees, nil, tree, part, _⊕_, siblings, last-end}
+use Rattle.tree.specs.Cells.{id-word}
 use Rattle.tree.specs.Balance.{SetType, total, grows, groups, groups-from}
-use Rattle.store.specs.Store.{Holds, stored-kind, stored-id, word}
+use Rattle.store.specs.Store.{Holds, stored-kind, word}
 use Rattle.balance_core.specs.Rows.{sized, Sizable, Ends, Row, Grouped}
 use Rattle.tree.proofs.ListingLaws.{⊕-assoc}
 use Rattle.tree.proofs.FuelLaws.{total-⊕}
@@ -73,7 +74,7 @@ module _ {w : List ℕ} {node k kd i : ℕ} (m : ℕ) (p : Row w node k kd i) wh
   start-at : (us : Trees) (size end next : ℕ) → 1 ≤ k → p .us ≡ us → Holds (p .type .none-first) w (p .base) (p .top) (p .low) node (us ⊕ p .tail)
       → total (p .type) us < 4294967295 → Ends us → siblings us ≡ k
       → groups (p .type) m (p .us) ≡ groups (p .type) m us
-      → size ≡ sized w node (stored-kind (p .type)) (stored-id (p .type)) → end ≡ word (getD w (node + 2) 0 + getD w (node + 3) 0) → next ≡ getD w (node + 5) 0 → Started size end next
+      → size ≡ sized w node (stored-kind (p .type)) (id-word (p .type .type)) → end ≡ word (getD w (node + 2) 0 + getD w (node + 3) 0) → next ≡ getD w (node + 5) 0 → Started size end next
   unfolding siblings _⊕_ groups last-end
   start-at nil size end next l e h few ends counted f es ee en = absurd (omega arith)
   start-at (tree u s n kids rest) size end next l e h few ends counted f es ee en =
@@ -120,13 +121,13 @@ module _ {w : List ℕ} {node k kd i : ℕ} (m : ℕ) (p : Row w node k kd i) wh
   growing-start {size} {end = end} {next = next} l es ea eb ee en =
       start-at (p .us) size end next l refl (p .holds) (p .few) (p .ends) (p .counted) refl (es ∙ rw (p .kind-is, p .id-is)) (ee ∙ rw (ea, eb)) en
 
-  sized-is : (n : ℕ) → sized w n kd i ≡ sized w n (stored-kind (p .type)) (stored-id (p .type))
+  sized-is : (n : ℕ) → sized w n kd i ≡ sized w n (stored-kind (p .type)) (id-word (p .type .type))
   sized-is n = rw (p .kind-is, p .id-is)
 
   -- the next tree is one too much
   stop : (size next : ℕ) (first rest : Trees) (x grown : ℕ) → Holds (p .type .none-first) w (p .base) (p .top) (p .low) next (rest ⊕ p .tail) → 1 ≤ siblings rest
       → size + total (p .type) rest < 4294967295
-      → x ≡ sized w next (stored-kind (p .type)) (stored-id (p .type)) → grown ≡ word (size + x) → m ≤ grown
+      → x ≡ sized w next (stored-kind (p .type)) (id-word (p .type .type)) → grown ≡ word (size + x) → m ≤ grown
       → groups-from (p .type) m first size rest ≡ first ∷ groups (p .type) m rest
   unfolding groups groups-from siblings _⊕_
   stop size next first nil x grown h q few ex eg over = absurd (omega arith)
@@ -145,7 +146,7 @@ module _ {w : List ℕ} {node k kd i : ℕ} (m : ℕ) (p : Row w node k kd i) wh
   step : (count size next end : ℕ) (first rest : Trees) → Growing count size next end first rest → (x grown next′ end′ : ℕ)
       → Holds (p .type .none-first) w (p .base) (p .top) (p .low) next (rest ⊕ p .tail) → Ends rest → 1 ≤ siblings rest
       → size + total (p .type) rest < 4294967295
-      → x ≡ sized w next (stored-kind (p .type)) (stored-id (p .type)) → grown ≡ word (size + x) → grown < m → m ≤ 4294967295
+      → x ≡ sized w next (stored-kind (p .type)) (id-word (p .type .type)) → grown ≡ word (size + x) → grown < m → m ≤ 4294967295
       → end′ ≡ word (getD w (next + 2) 0 + getD w (next + 3) 0) → next′ ≡ getD w (next + 5) 0
       → p .us ≡ first ⊕ rest → groups (p .type) m (p .us) ≡ groups-from (p .type) m first size rest → Grown count grown next′ end′
   unfolding groups-from siblings _⊕_

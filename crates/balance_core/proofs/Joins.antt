@@ -9,8 +9,9 @@ use borrow.Author.Tests.{eq-eqb, ne-eqb}
 use lib.Dec.{eqb}
 use lib.ListN.{length, getD}
 use Rattle.tree.specs.Trees.{Trees, nil, tree, part, _⊕_, siblings}
+use Rattle.tree.specs.Cells.{id-word}
 use Rattle.tree.specs.Balance.{SetType, same-type, lone, is-tree, joined}
-use Rattle.store.specs.Store.{Holds, Readable, PushedTree, typed, stored-kind, stored-id}
+use Rattle.store.specs.Store.{Holds, Readable, PushedTree, typed, stored-kind}
 use Rattle.store.proofs.Types.{typed-is, typed-part}
 use Rattle.store.proofs.Frame.{readable}
 use Rattle.balance_core.specs.Ready.{CopyReady, Copied, JoinReady, Joined, alone}
@@ -58,7 +59,7 @@ lone-next f w base top low n t s l kids (tree u s′ l′ ks more) h = ne-eqb n 
 lone-next f w base top low n t s l kids (part s′ l′ ws more) h = ne-eqb n 0 (λ e. omega (arith, h .node .live))
 
 pub alone-is : (t : SetType) (w : List ℕ) (base top low n s l : ℕ) (ts : Trees) → Holds (t .none-first) w base top low n ts
-    → alone w n (stored-kind t) (stored-id t) s l ≡ is-tree t s l ts
+    → alone w n (stored-kind t) (id-word (t .type)) s l ≡ is-tree t s l ts
 unfolding is-tree
 alone-is t w base top low n s l nil h = rw (eq-eqb n 0 h)
 alone-is t w base top low n s l (part s′ l′ ws rest) h =

@@ -7,8 +7,9 @@ use Prim.Native.Nat.{ℕ, suc, _+_, _-_, max, _≤_}
 use native.Mathlib.Omega.{arith}
 use lib.ListN.{length, getD}
 use Rattle.tree.specs.Trees.{Trees, nil, tree, part, siblings}
+use Rattle.tree.specs.Cells.{id-word}
 use Rattle.tree.specs.Balance.{SetType, same-type, all-of, total}
-use Rattle.store.specs.Store.{Holds, Readable, typed, liked, likes, stored-kind, stored-id, word}
+use Rattle.store.specs.Store.{Holds, Readable, typed, liked, likes, stored-kind, word}
 use Rattle.store.proofs.Types.{typed-is, typed-part}
 use Rattle.store.proofs.Frame.{tells-like, readable}
 use Rattle.balance_core.specs.Rows.{sized, Sizable}
@@ -38,7 +39,7 @@ other-size t u s l kids e = rw e refl
 
 module _ (t : SetType) (w : List ℕ) (base top low : ℕ) where
   pub size-tree : (n : ℕ) (u : Option ℕ) (s l : ℕ) (kids rest : Trees) → Holds (t .none-first) w base top low n (tree u s l kids rest)
-      → sized w n (stored-kind t) (stored-id t) ≡ word (total t (tree u s l kids nil))
+      → sized w n (stored-kind t) (id-word (t .type)) ≡ word (total t (tree u s l kids nil))
   size-tree n u s l kids rest h =
       rw (typed-is (t .none-first) (t .type) u w n (h .node .kind-at) (h .node .id-at), tells-like (t .none-first) w base top low _ kids (t .type) (h .first))
       (go (same-type t u) refl)
@@ -47,10 +48,10 @@ module _ (t : SetType) (w : List ℕ) (base top low : ℕ) where
       go true e = likes-size t u s l kids e
       go false e = other-size t u s l kids e
 
-  pub size-part : (n s l : ℕ) (ws : List ℕ) (rest : Trees) → Holds (t .none-first) w base top low n (part s l ws rest) → sized w n (stored-kind t) (stored-id t) ≡ 1
+  pub size-part : (n s l : ℕ) (ws : List ℕ) (rest : Trees) → Holds (t .none-first) w base top low n (part s l ws rest) → sized w n (stored-kind t) (id-word (t .type)) ≡ 1
   size-part n s l ws rest h = rw (typed-part (t .none-first) (t .type) w n (h .node .kind-at))
 
-  pub sizable : (n : ℕ) (ts : Trees) → top ≤ length w → 1 ≤ siblings ts → Holds (t .none-first) w base top low n ts → Sizable w n (stored-kind t) (stored-id t)
+  pub sizable : (n : ℕ) (ts : Trees) → top ≤ length w → 1 ≤ siblings ts → Holds (t .none-first) w base top low n ts → Sizable w n (stored-kind t) (id-word (t .type))
   unfolding siblings
   sizable n nil m p h = absurd (omega arith)
   sizable n (tree u s l kids rest) m p h = record { inside = omega (arith, h .node .below); kids = λ e. readable (t .none-first) w base top low _ kids m (h .first) }

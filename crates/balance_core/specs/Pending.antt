@@ -4,8 +4,9 @@ use mathlib.Core.List.{List, [], _∷_}
 use Prim.Native.Nat.{ℕ, _+_, _*_, _≤_, _<_}
 use lib.ListN.{length, getD}
 use Rattle.tree.specs.Trees.{Trees, _⊕_, siblings, last-end}
+use Rattle.tree.specs.Cells.{id-word}
 use Rattle.tree.specs.Balance.{SetType, total, groups}
-use Rattle.store.specs.Store.{Holds, Same, stored-kind, stored-id}
+use Rattle.store.specs.Store.{Holds, Same, stored-kind}
 use Rattle.balance_core.specs.Rows.{Ends}
 
 -- a group's four words: its first node, how many trees, their size, their end
@@ -53,7 +54,7 @@ pub record PushReady (w : List ℕ) (stack node k kd i m : ℕ) : Type 0 where
   pub holds : Holds (type .none-first) w base top low node (us ⊕ tail)
   pub counted : siblings us ≡ k
   pub kind-is : kd ≡ stored-kind type
-  pub id-is : i ≡ stored-id type
+  pub id-is : i ≡ id-word (type .type)
   pub few : total type us < 4294967295
   pub ends : Ends us
   pub pending : Pending w base top low type m stack bottom below

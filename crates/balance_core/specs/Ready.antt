@@ -7,8 +7,9 @@ use Prim.Native.Nat.{ℕ, suc, _+_, _*_, _≤_, _<_}
 use lib.Dec.{eqb}
 use lib.ListN.{length}
 use Rattle.tree.specs.Trees.{Trees, _⊕_, siblings}
+use Rattle.tree.specs.Cells.{id-word}
 use Rattle.tree.specs.Balance.{SetType, in-set, total, share, divide, joined, balance}
-use Rattle.store.specs.Store.{Holds, Same, typed, stored-kind, stored-id, node-width, node-start, node-length, node-next}
+use Rattle.store.specs.Store.{Holds, Same, typed, stored-kind, node-width, node-start, node-length, node-next}
 use Rattle.balance_core.specs.Rows.{Ends}
 
 -- one tree, whose later siblings do not count, and a list to stand before
@@ -56,7 +57,7 @@ pub record JoinReady (w : List ℕ) (top node kd i next : ℕ) : Type 0 where
   pub inside : low ≤ length w
   pub fits : low ≤ 4294967295
   pub kind-is : kd ≡ stored-kind type
-  pub id-is : i ≡ stored-id type
+  pub id-is : i ≡ id-word (type .type)
   pub holds : Holds (type .none-first) w base top low node ts
   pub onto : Holds (type .none-first) w base top low next rest
 
@@ -82,7 +83,7 @@ pub record DivideReady (w : List ℕ) (top stack node k kd i m size next : ℕ) 
   pub inside : low ≤ length w
   pub fits : low ≤ 4294967295
   pub kind-is : kd ≡ stored-kind type
-  pub id-is : i ≡ stored-id type
+  pub id-is : i ≡ id-word (type .type)
   pub holds : Holds (type .none-first) w base top low node (us ⊕ tail)
   pub onto : Holds (type .none-first) w base top low next rest
   pub counted : siblings us ≡ k
@@ -106,7 +107,7 @@ pub record BalanceReady (w : List ℕ) (top stack node k kd i okd oi size next :
   pub own : Option ℕ
   pub row : DivideReady w top stack node k kd i (share size) size next
   pub own-kind : okd ≡ stored-kind (in-set (row .type .none-first) own)
-  pub own-id : oi ≡ stored-id (in-set (row .type .none-first) own)
+  pub own-id : oi ≡ id-word own
 
 -- the balanced tree stands before the list
 pub record Balanced (w w′ : List ℕ) (top stack node k kd i okd oi s l size next rtop rnode : ℕ) : Type 0 where

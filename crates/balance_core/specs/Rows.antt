@@ -5,8 +5,9 @@ use mathlib.Core.Bool.{true, cond}
 use Prim.Native.Nat.{ℕ, _+_, max, _≤_, _<_}
 use lib.ListN.{length}
 use Rattle.tree.specs.Trees.{Trees, nil, tree, part, _⊕_, siblings, last-end}
+use Rattle.tree.specs.Cells.{id-word}
 use Rattle.tree.specs.Balance.{SetType, total, groups}
-use Rattle.store.specs.Store.{Holds, Readable, typed, liked, stored-kind, stored-id, node-width, node-first}
+use Rattle.store.specs.Store.{Holds, Readable, typed, liked, stored-kind, node-width, node-first}
 
 -- a node's balanced size under a type, by what its words tell
 abbrev pub sized : (w : List ℕ) (n kind id : ℕ) → ℕ
@@ -35,7 +36,7 @@ pub record Row (w : List ℕ) (node k kd i : ℕ) : Type 0 where
   pub holds : Holds (type .none-first) w base top low node (us ⊕ tail)
   pub counted : siblings us ≡ k
   pub kind-is : kd ≡ stored-kind type
-  pub id-is : i ≡ stored-id type
+  pub id-is : i ≡ id-word (type .type)
   pub few : total type us < 4294967295
   pub ends : Ends us
 

@@ -3,7 +3,7 @@ use native.Mathlib.Nat.{add-zero}
 use mathlib.Core.Path.{_≡_, ap, _∙_}
 use mathlib.Core.List.{List, [], _∷_}
 use mathlib.Core.Bool.{true, false, cond}
-use Prim.Native.Nat.{ℕ, _+_, _-_, _*_, _≤_, _<_}
+use Prim.Native.Nat.{ℕ, _+_, _-_, _*_, _%_, _≤_, _<_}
 use native.Mathlib.Omega.{arith}
 use native.Mathlib.Numerals.{add-one}
 use borrow.Author.Tests.{eq-eqb, ne-eqb}
@@ -12,20 +12,19 @@ use lib.ListN.{length, getD, drop, set, length-drop}
 use lib.Seq.{paste, paste-suc, length-paste, getD-drop}
 use Rattle.tree.specs.Cells.{cell-width}
 use Rattle.words.specs.Words.{put}
-use Rattle.store.specs.Store.{told, typed, liked, kind-written, id-written, tree-cell, part-cell, PartReady, PartWritten}
+use Rattle.store.specs.Store.{told, typed, liked, kind-written, tree-cell, part-cell, PartReady, PartWritten}
 
 module _ (w out out′ : List ℕ) (n q cell : ℕ) where
-  pub tree-written : (kind id start first count below big next : ℕ)
-      → out′ ≡ put out (cell * cell-width) (kind ∷ id ∷ start ∷ getD w (n + 3) 0 ∷ first ∷ count ∷ next ∷ [])
-      → kind ≡ kind-written (getD w (n + 0) 0) (getD w (n + 1) 0)
-      → id ≡ id-written (getD w (n + 0) 0) (getD w (n + 1) 0)
+  pub tree-written : (kind start first count below big next : ℕ)
+      → out′ ≡ put out (cell * cell-width) (kind ∷ getD w (n + 1) 0 ∷ start ∷ getD w (n + 3) 0 ∷ first ∷ count ∷ next ∷ [])
+      → kind ≡ kind-written (getD w (n + 0) 0)
       → start ≡ getD w (n + 2) 0 - q
       → first ≡ cond (eqb (getD w (n + 4) 0) 0) 0 (cell + 2)
       → count ≡ told w (getD w (n + 4) 0) 8
       → next ≡ cond (eqb (getD w (n + 5) 0) 0) 0 (cell + 2 + big)
       → big ≡ below → below ≡ told w (getD w (n + 4) 0) 6
       → out′ ≡ put out (cell * cell-width) (tree-cell w n q cell)
-  tree-written kind id start first count below big next e ek ei e₁ e₂ e₃ e₄ e₅ e₆ = e ∙ rw (ek, ei, add-zero n, e₄, e₅, e₆, e₁, e₂, e₃)
+  tree-written kind start first count below big next e ek e₁ e₂ e₃ e₄ e₅ e₆ = e ∙ rw (ek, add-zero n, e₄, e₅, e₆, e₁, e₂, e₃)
 
   pub part-written : (word start next : ℕ)
       → out′ ≡ put out (cell * cell-width) (2 ∷ 0 ∷ start ∷ getD w (n + 3) 0 ∷ word ∷ getD w (n + 1) 0 ∷ next ∷ [])
@@ -56,14 +55,11 @@ whole-part w n q cell word out out′ words words′ from count e f a b = record
 
 -- the answers of the comparison
 module _ (w : List ℕ) (n node k i : ℕ) (e : n ≡ node) where
-  pub typed-kind : (getD w n 0 ≡ k → ⊥) → false ≡ typed w node k i
+  pub typed-kind : (getD w n 0 % 4 ≡ k % 4 → ⊥) → false ≡ typed w node k i
   typed-kind a = rw (← e, ne-eqb _ _ a)
 
-  pub typed-none : getD w n 0 ≡ k → k ≡ 3 → true ≡ typed w node k i
-  typed-none a b = rw (← e, eq-eqb _ _ a, eq-eqb _ _ b)
-
-  pub typed-id : getD w n 0 ≡ k → (k ≡ 3 → ⊥) → eqb i (getD w (n + 1) 0) ≡ typed w node k i
-  typed-id a b = rw (← e, eq-eqb _ _ a, ne-eqb _ _ b)
+  pub typed-id : getD w n 0 % 4 ≡ k % 4 → eqb i (getD w (n + 1) 0) ≡ typed w node k i
+  typed-id a = rw (← e, eq-eqb _ _ a)
 
 -- and those of what is told of a list
 module _ (w : List ℕ) (node k i : ℕ) (live : node ≡ 0 → ⊥) where

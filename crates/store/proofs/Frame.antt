@@ -11,12 +11,12 @@ use lib.Dec.{T as So, eqb}
 use lib.ListN.{length, getD, set, length-append, length-set}
 use lib.Seq.{getD-set-same, getD-set-other}
 use Rattle.tree.specs.Trees.{Trees, nil, tree, part, nodes, siblings}
-use Rattle.tree.specs.Cells.{packed}
+use Rattle.tree.specs.Cells.{packed, id-word}
 use Rattle.tree.specs.Balance.{SetType, in-set, type-under, equal-types, all-of, total, same-type}
 use Rattle.tree.proofs.BalanceLaws.{same-refl, equal-is, all-of-counted, total-counted}
 use Rattle.store.proofs.Types.{typed-is, typed-part}
 use Rattle.words.specs.Words.{put}
-use Rattle.store.specs.Store.{likes, typed, liked, liked-on, word, stored-kind, stored-id, Node, Staged, Holds, Same, told, Readable, PushedTree, PushedPart, StagedMore}
+use Rattle.store.specs.Store.{likes, typed, liked, liked-on, word, stored-kind, Node, Staged, Holds, Same, told, Readable, PushedTree, PushedPart, StagedMore}
 use Rattle.words.proofs.Stores.{put-length, put-in, put-before, put-after}
 
 pub same-less : (w w′ : List ℕ) (base top low base′ top′ low′ : ℕ) → base ≤ base′ → top′ ≤ top → low ≤ low′ → Same w w′ base top low → Same w w′ base′ top′ low′
@@ -153,7 +153,7 @@ likes-typed f t u s l kids rest = go (same-type (in-set f t) u) refl
     go false e = rw e
 
 module _ (f : Bool) (w : List ℕ) (base top low : ℕ) where
-  pub tells-like : (n : ℕ) (ts : Trees) (t : Option ℕ) → Holds f w base top low n ts → liked w n (stored-kind (in-set f t)) (stored-id (in-set f t)) ≡ likes (in-set f t) ts
+  pub tells-like : (n : ℕ) (ts : Trees) (t : Option ℕ) → Holds f w base top low n ts → liked w n (stored-kind (in-set f t)) (id-word t) ≡ likes (in-set f t) ts
   tells-like n nil t h = rw (eq-eqb n 0 h) (likes-nil (in-set f t))
   tells-like n (part s l ws rest) t h =
       rw (ne-eqb n 0 (λ e. omega (arith, h .node .live)), typed-part f t w n (h .node .kind-at)) (likes-part (in-set f t) s l ws rest)
@@ -192,7 +192,7 @@ module _ (f : Bool) (w : List ℕ) (top : ℕ) (room : top + 10 ≤ length w) (b
           like-at = at 9 (omega arith);
         }
 
-    pub new-tree : (t : Option ℕ) (kids rest : Trees) → k ≡ stored-kind (in-set f t) → i ≡ stored-id (in-set f t) → Holds f w base top low a kids → Holds f w base top low n rest
+    pub new-tree : (t : Option ℕ) (kids rest : Trees) → k ≡ stored-kind (in-set f t) → i ≡ id-word t → Holds f w base top low a kids → Holds f w base top low n rest
         → x ≡ word (word (told w a 6 + told w n 6) + 1) → y ≡ word (told w a 7 + told w n 7) → z ≡ word (told w n 8 + 1)
         → o ≡ liked-on (max 1 (liked w a k i)) (liked w n k i)
         → Holds f w₁ base (top + 10) low top (tree t s l kids rest)

@@ -1,16 +1,15 @@
 -- Types as nodes tell them: nodes compare as their types do under the set, and a node's cell has its type again. Assumes nothing.
-use mathlib.Core.Path.{_≡_, refl, sym, ap, ap₂, _∙_}
+use mathlib.Core.Path.{_≡_, refl, sym, ap, _∙_}
 use mathlib.Core.Bool.{Bool, true, false, cond}
 use mathlib.Core.List.{List}
 use mathlib.Core.Option.{Option, none, some}
-use Prim.Native.Nat.{ℕ, zero, suc, _+_}
+use Prim.Native.Nat.{ℕ, zero, suc, _+_, _%_}
 use native.Mathlib.Omega.{arith}
-use borrow.Author.Tests.{ne-eqb}
 use lib.Dec.{eqb}
 use lib.ListN.{getD}
 use Rattle.tree.specs.Cells.{kind, id-word}
-use Rattle.tree.specs.Balance.{in-set, type-under, equal-types, same-type}
-use Rattle.store.specs.Store.{stored-kind, stored-id, kind-written, id-written, typed}
+use Rattle.tree.specs.Balance.{in-set, equal-types, same-type}
+use Rattle.store.specs.Store.{stored-kind, kind-written, typed}
 
 pub type-same : (t u : Option ℕ) → kind t ≡ kind u → id-word t ≡ id-word u → t ≡ u
 unfolding kind id-word
@@ -24,32 +23,28 @@ unfolding kind
 not-part none k = omega arith
 not-part (some a) k = omega arith
 
--- the cell of a node has the node's type
-pub kind-back : (f : Bool) (t : Option ℕ) → kind-written (stored-kind (in-set f t)) (stored-id (in-set f t)) ≡ kind t
-unfolding kind id-word
+pub no-part-kind : (f : Bool) (t : Option ℕ) → stored-kind (in-set f t) ≡ 2 → ⊥
+no-part-kind false t k = not-part t k
+no-part-kind true none k = omega arith
+no-part-kind true (some zero) k = omega arith
+no-part-kind true (some (suc i)) k = omega arith
+
+-- the cell of a node has the kind of the node's type
+pub kind-back : (f : Bool) (t : Option ℕ) → kind-written (stored-kind (in-set f t)) ≡ kind t
+unfolding kind
 kind-back false none = refl
 kind-back false (some i) = refl
 kind-back true none = refl
 kind-back true (some zero) = refl
 kind-back true (some (suc i)) = refl
 
-pub id-back : (f : Bool) (t : Option ℕ) → id-written (stored-kind (in-set f t)) (stored-id (in-set f t)) ≡ id-word t
-unfolding kind id-word
-id-back false none = refl
-id-back false (some i) = refl
-id-back true none = refl
-id-back true (some zero) = refl
-id-back true (some (suc i)) = refl
-
 -- so a node's kind and id tell one type, whatever the set
-pub stored-same : (f g : Bool) (t u : Option ℕ) → stored-kind (in-set f t) ≡ stored-kind (in-set g u) → stored-id (in-set f t) ≡ stored-id (in-set g u) → t ≡ u
-stored-same f g t u k i =
-    type-same t u (sym (kind-back f t) ∙ (ap₂ kind-written k i ∙ kind-back g u)) (sym (id-back f t) ∙ (ap₂ id-written k i ∙ id-back g u))
+pub stored-same : (f g : Bool) (t u : Option ℕ) → stored-kind (in-set f t) ≡ stored-kind (in-set g u) → id-word t ≡ id-word u → t ≡ u
+stored-same f g t u k i = type-same t u (sym (kind-back f t) ∙ (ap kind-written k ∙ kind-back g u)) i
 
 -- nodes compare as types do under the set
 compared : (f : Bool) (t u : Option ℕ)
-    → cond (eqb (stored-kind (in-set f u)) (stored-kind (in-set f t))) (cond (eqb (stored-kind (in-set f t)) 3) true (eqb (stored-id (in-set f t)) (stored-id (in-set f u)))) false
-    ≡ same-type (in-set f t) u
+    → cond (eqb (stored-kind (in-set f u) % 4) (stored-kind (in-set f t) % 4)) (eqb (id-word t) (id-word u)) false ≡ same-type (in-set f t) u
 unfolding kind id-word equal-types
 compared false none none = refl
 compared false none (some i) = refl
@@ -65,10 +60,18 @@ compared true (some (suc r)) none = refl
 compared true (some (suc r)) (some zero) = refl
 compared true (some (suc r)) (some (suc i)) = refl
 
-pub typed-is : (f : Bool) (t u : Option ℕ) (w : List ℕ) (n : ℕ) → getD w n 0 ≡ stored-kind (in-set f u) → getD w (n + 1) 0 ≡ stored-id (in-set f u)
-    → typed w n (stored-kind (in-set f t)) (stored-id (in-set f t)) ≡ same-type (in-set f t) u
+pub typed-is : (f : Bool) (t u : Option ℕ) (w : List ℕ) (n : ℕ) → getD w n 0 ≡ stored-kind (in-set f u) → getD w (n + 1) 0 ≡ id-word u
+    → typed w n (stored-kind (in-set f t)) (id-word t) ≡ same-type (in-set f t) u
 typed-is f t u w n k i = rw (k, i) (compared f t u)
 
 -- a part's node is of no type
-pub typed-part : (f : Bool) (t : Option ℕ) (w : List ℕ) (n : ℕ) → getD w n 0 ≡ 2 → typed w n (stored-kind (in-set f t)) (stored-id (in-set f t)) ≡ false
-typed-part f t w n k = rw (k, ne-eqb 2 (stored-kind (in-set f t)) (λ e. not-part (type-under f t) (sym e)))
+not-two : (f : Bool) (t : Option ℕ) → eqb 2 (stored-kind (in-set f t) % 4) ≡ false
+unfolding kind
+not-two false none = refl
+not-two false (some i) = refl
+not-two true none = refl
+not-two true (some zero) = refl
+not-two true (some (suc i)) = refl
+
+pub typed-part : (f : Bool) (t : Option ℕ) (w : List ℕ) (n : ℕ) → getD w n 0 ≡ 2 → typed w n (stored-kind (in-set f t)) (id-word t) ≡ false
+typed-part f t w n k = rw (k, not-two f t)

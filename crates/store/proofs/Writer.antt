@@ -11,15 +11,15 @@ use lib.Dec.{eqb}
 use lib.ListN.{length, getD, take, drop, length-append, length-drop}
 use lib.Seq.{paste, ext-getD, length-take-le, getD-take, getD-drop}
 use Rattle.tree.specs.Trees.{Trees, nil, tree, part, nodes, siblings}
-use Rattle.tree.specs.Balance.{in-set, type-under}
+use Rattle.tree.specs.Balance.{in-set}
 use Rattle.tree.specs.Cells.{packed, kind, id-word, tree-cells, unless-none, cell-width}
 use Rattle.words.specs.Words.{put, front}
 use Rattle.words.proofs.Runs.{Fronted, fronted-length, fronted-next, fronted-all}
-use Rattle.store.specs.Store.{likes, word, stored-kind, stored-id, Node, Holds, Same, told, Readable, tree-cell, part-cell, Writable, Wrote, PartReady, PartWritten}
+use Rattle.store.specs.Store.{likes, word, stored-kind, Node, Holds, Same, told, Readable, tree-cell, part-cell, Writable, Wrote, PartReady, PartWritten}
 use Rattle.words.proofs.Stores.{put-length, put-in, put-before}
 use Rattle.store.proofs.Frame.{same-less, same-put, frame, tells-cells, tells-trees, readable}
 use Rattle.store.proofs.Unique.{unique}
-use Rattle.store.proofs.Types.{not-part, kind-back, id-back}
+use Rattle.store.proofs.Types.{no-part-kind, kind-back}
 use Rattle.store.proofs.Flow.{Later, end, more, flow, parts, left, flow-nil, flow-tree, flow-part, siblings-few}
 
 -- the pending lists stand on the stack, two words each: the list's address, the parent's start
@@ -170,7 +170,7 @@ module _ (w₀ : List ℕ) (top root start : ℕ) (out₀ words₀ : List ℕ) (
     pub part-ready : (now : Trees) (later : Later) → Here now later → (at ≡ 0 → ⊥) → getD w at 0 ≡ 2 → PartReady w at cell (length out) word (length words)
     unfolding parts packed
     part-ready nil later g ne k = absurd (ne (g .holds))
-    part-ready (tree t s l kids rest) later g ne k = absurd (not-part (type-under (p .none-first) t) (sym (g .holds .node .kind-at) ∙ k))
+    part-ready (tree t s l kids rest) later g ne k = absurd (no-part-kind (p .none-first) t (sym (g .holds .node .kind-at) ∙ k))
     part-ready (part s l ws rest) later g ne k =
         let now : Trees = part s l ws rest in
         let i = g .holds .node .id-at in
@@ -244,7 +244,7 @@ module _ (w₀ : List ℕ) (top root start : ℕ) (out₀ words₀ : List ℕ) (
           now : Trees
           now = tree t s l kids rest
 
-          node : Node w (p .base) top at (stored-kind (in-set (p .none-first) t)) (stored-id (in-set (p .none-first) t)) s l (likes (in-set (p .none-first) t) now) now
+          node : Node w (p .base) top at (stored-kind (in-set (p .none-first) t)) (id-word t) s l (likes (in-set (p .none-first) t) now) now
           node = g .holds .node
 
           ready : TreeReady
@@ -296,7 +296,6 @@ module _ (w₀ : List ℕ) (top root start : ℕ) (out₀ words₀ : List ℕ) (
                 node .kind-at,
                 node .id-at,
                 kind-back (p .none-first) t,
-                id-back (p .none-first) t,
                 node .start-at,
                 node .length-at,
                 two-more,
@@ -310,7 +309,7 @@ module _ (w₀ : List ℕ) (top root start : ℕ) (out₀ words₀ : List ℕ) (
           → (word + r ≤ length words₀) × ((ts : Trees) × (rest : Later) × Going w out′ words′ (getD w (at + 5) 0) from sp (cell + 1) (word + r) ts rest)
       unfolding left nodes parts packed
       going-part nil later g ne k words′ r wr = absurd (ne (g .holds))
-      going-part (tree t s l kids rest) later g ne k words′ r wr = absurd (not-part (type-under (p .none-first) t) (sym (g .holds .node .kind-at) ∙ k))
+      going-part (tree t s l kids rest) later g ne k words′ r wr = absurd (no-part-kind (p .none-first) t (sym (g .holds .node .kind-at) ∙ k))
       going-part (part s l ws rest) later g ne k words′ r wr = (
         fits,
         (

@@ -3,13 +3,13 @@ use mathlib.Core.Path.{_≡_}
 use mathlib.Core.List.{List, [], _∷_}
 use mathlib.Core.Bool.{Bool, true, false, cond}
 use mathlib.Core.Option.{Option, none, some}
-use Prim.Native.Nat.{ℕ, zero, suc, _+_, _-_, _*_, min, _≤_, _<_}
+use Prim.Native.Nat.{ℕ, zero, suc, _+_, _-_, _*_, _%_, min, _≤_, _<_}
 use lib.Dec.{eqb}
 use lib.ListN.{length, getD, drop}
 use lib.Seq.{paste}
 use Rattle.words.specs.Words.{put, front}
 use Rattle.tree.specs.Trees.{Trees, nil, tree, part, nodes, siblings}
-use Rattle.tree.specs.Balance.{SetType, in-set, type-under, all-of, total}
+use Rattle.tree.specs.Balance.{SetType, in-set, all-of, total}
 use Rattle.tree.specs.Cells.{cell-width, packed, kind, id-word, tree-cells}
 
 -- a count as a 32-bit word keeps it
@@ -20,26 +20,20 @@ word n = min n 4294967295
 unfoldable pub likes : (t : SetType) → Trees → ℕ
 likes t ts = cond (all-of t ts) (word (suc (total t ts))) 0
 
--- The kind and id by which a node tells its type. Where place 0 of the set is none, a tree of id 0 has the kind of none and the id 1:
--- it compares as none does, and its cell still has kind 1 and id 0.
+-- The kind by which a node, beside its id, tells its type. Kinds are compared modulo 4. Where place 0 of the set is none, a tree of id 0
+-- has the kind 7: it compares as none does, and its cell still has kind 1.
+abbrev pub kind-under : (none-first : Bool) → Option ℕ → ℕ
+kind-under false t = kind t
+kind-under true none = 3
+kind-under true (some zero) = 7
+kind-under true (some (suc i)) = 1
+
 abbrev pub stored-kind : SetType → ℕ
-stored-kind t = kind (type-under (t .none-first) (t .type))
+stored-kind t = kind-under (t .none-first) (t .type)
 
-abbrev pub id-under : (none-first : Bool) → Option ℕ → ℕ
-id-under false t = id-word t
-id-under true none = 0
-id-under true (some zero) = 1
-id-under true (some (suc i)) = suc i
-
-abbrev pub stored-id : SetType → ℕ
-stored-id t = id-under (t .none-first) (t .type)
-
--- the kind and id of the cell that a tree's node is written as
-abbrev pub kind-written : (kind id : ℕ) → ℕ
-kind-written k i = cond (eqb k 3) (cond (eqb i 1) 1 3) k
-
-abbrev pub id-written : (kind id : ℕ) → ℕ
-id-written k i = cond (eqb k 3) 0 i
+-- the kind of the cell that a tree's node is written as
+abbrev pub kind-written : (kind : ℕ) → ℕ
+kind-written k = cond (eqb k 7) 1 k
 
 -- how many words a node has
 abbrev pub node-width : ℕ
@@ -106,7 +100,7 @@ abbrev pub Holds : (none-first : Bool) (w : List ℕ) (base top low n : ℕ) →
 Holds f w base top low n nil = n ≡ 0
 Holds f w base top low n (tree t s l kids rest) =
     record {
-      node : Node w base top n (stored-kind (in-set f t)) (stored-id (in-set f t)) s l (likes (in-set f t) (tree t s l kids rest)) (tree t s l kids rest);
+      node : Node w base top n (stored-kind (in-set f t)) (id-word t) s l (likes (in-set f t) (tree t s l kids rest)) (tree t s l kids rest);
       first : Holds f w base top low (node-first w n) kids;
       next : Holds f w base top low (node-next w n) rest;
     }
@@ -127,9 +121,9 @@ pub record Same (w w′ : List ℕ) (base top low : ℕ) : Type 0 where
 abbrev pub told : List ℕ → ℕ → ℕ → ℕ
 told w n k = cond (eqb n 0) 0 (getD w (n + k) 0)
 
--- is a node's type the one of this kind and id? All of the kind of none are of one type.
+-- is a node's type the one of this kind and id?
 abbrev pub typed : (w : List ℕ) (n kind id : ℕ) → Bool
-typed w n k i = cond (eqb (node-kind w n) k) (cond (eqb k 3) true (eqb i (node-id w n))) false
+typed w n k i = cond (eqb (node-kind w n % 4) (k % 4)) (eqb i (node-id w n)) false
 
 -- what a list's node tells of a type: one more than the balanced size where all are trees of it, else 0
 abbrev pub liked : (w : List ℕ) (n kind id : ℕ) → ℕ
@@ -148,7 +142,7 @@ pub record PushedTree (w w′ : List ℕ) (top k i s l kids next r : ℕ) : Type
   pub address : r ≡ top
   pub kept : Same w w′ 0 top (top + node-width)
   pub holds : (f : Bool) (base low : ℕ) (t : Option ℕ) (ks rest : Trees) → 0 < base → base ≤ top → top + node-width ≤ low
-      → k ≡ stored-kind (in-set f t) → i ≡ stored-id (in-set f t)
+      → k ≡ stored-kind (in-set f t) → i ≡ id-word t
       → Holds f w base top low kids ks → Holds f w base top low next rest
       → Holds f w′ base (top + node-width) low r (tree t s l ks rest)
 
@@ -163,7 +157,7 @@ pub record PushedPart (w w′ : List ℕ) (top s l from count next r : ℕ) : Ty
 -- the cell of a tree node, after `cell` others, under a parent that starts at q
 abbrev pub tree-cell : (w : List ℕ) (n q cell : ℕ) → List ℕ
 tree-cell w n q cell =
-    kind-written (node-kind w n) (node-id w n) ∷ id-written (node-kind w n) (node-id w n) ∷ (node-start w n - q) ∷ node-length w n
+    kind-written (node-kind w n) ∷ node-id w n ∷ (node-start w n - q) ∷ node-length w n
     ∷ cond (eqb (node-first w n) 0) 0 (cell + 2)
     ∷ told w (node-first w n) node-trees-place
     ∷ cond (eqb (node-next w n) 0) 0 (cell + 2 + told w (node-first w n) node-cells-place)

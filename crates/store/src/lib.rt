@@ -10,7 +10,7 @@ ghost use lib.Dec.{eqb};
 ghost use mathlib.Core.Bool.{cond};
 ghost use Rattle.tree.specs.Cells.{cell-width};
 ghost use Rattle.words.specs.Words.{put};
-ghost use Rattle.store.specs.Store.{told, typed, kind-written, id-written, liked, liked-on, word, Readable, PushedTree, PushedPart, StagedMore, tree-cell, PartReady, PartWritten, Writable, Wrote, TopReady, TopWrote, node-width, node-first, node-cells-place};
+ghost use Rattle.store.specs.Store.{told, typed, kind-written, liked, liked-on, word, Readable, PushedTree, PushedPart, StagedMore, tree-cell, PartReady, PartWritten, Writable, Wrote, TopReady, TopWrote, node-width, node-first, node-cells-place};
 use tree::CELL_WIDTH;
 
 // How many words a node has.
@@ -37,11 +37,13 @@ pub const NODE_TREES: usize = 8;
 
 pub const NODE_LIKE: usize = 9;
 
-// The kind of trees of `NodeType::none`.
+// The kind of trees of `NodeType::none`, and the kind of a node that stands for a tree of id 0 where place 0 of the set is none.
 pub const NONE: u32 = 3;
 
-// The id that a node of that kind has where it stands for a tree of id 0, on a set whose place 0 is none.
-pub const FIRST_OF_SET: u32 = 1;
+pub const FIRST_OF_SET: u32 = 7;
+
+// Kinds that are equal modulo this compare as equal: `FIRST_OF_SET` as `NONE`, any other as itself alone.
+const KINDS: u32 = 4;
 
 // A node's words from an address on.
 fn put_node(
@@ -95,17 +97,14 @@ pub fn sum(a: u32, b: u32) -> u32
     a + b
 }
 
-// Is a node's type the one of this kind and id? All trees of the kind of none are of one type.
+// Is a node's type the one of this kind and id?
 pub fn same_type(work: &[u32], node: u32, kind: u32, id: u32) -> bool
     requires { ⌜ node + node-width ≤ length (now work) ⌝ }
     ensures { λ r. ⌜ r ≡ typed (now (work .entry)) node kind id ⌝ }
 {
     let n = words::index(node);
-    if work[n + NODE_KIND] != kind {
+    if work[n + NODE_KIND] % KINDS != kind % KINDS {
         return false;
-    }
-    if kind == NONE {
-        return true;
     }
     id == work[n + NODE_ID]
 }
@@ -254,26 +253,13 @@ fn copy_words(work: &[u32], from: usize, count: usize, out: &mut [u16], at: usiz
 }
 
 // The kind of the cell that a tree's node is written as.
-fn kind_written(kind: u32, id: u32) -> u32
-    ensures { λ r. ⌜ r ≡ kind-written kind id ⌝ }
+fn kind_written(kind: u32) -> u32
+    ensures { λ r. ⌜ r ≡ kind-written kind ⌝ }
 {
-    if kind == NONE {
-        if id == FIRST_OF_SET {
-            return 1;
-        }
-        return NONE;
+    if kind == FIRST_OF_SET {
+        return 1;
     }
     kind
-}
-
-// Its id.
-fn id_written(kind: u32, id: u32) -> u32
-    ensures { λ r. ⌜ r ≡ id-written kind id ⌝ }
-{
-    if kind == NONE {
-        return 0;
-    }
-    id
 }
 
 // The cell of the tree at n, after `cell` others.
@@ -290,13 +276,12 @@ fn write_tree(work: &[u32], n: usize, from: u32, out: &mut [u32], cell: usize)
     let count = tell(work, kids, NODE_TREES);
     let next = link(work[n + NODE_NEXT], cell + 2 + words::index(below));
     let start = words::less(work[n + NODE_START], from);
-    let kind = kind_written(work[n + NODE_KIND], work[n + NODE_ID]);
-    let id = id_written(work[n + NODE_KIND], work[n + NODE_ID]);
+    let kind = kind_written(work[n + NODE_KIND]);
     tree::put_cell(
         out,
         cell * CELL_WIDTH,
         kind,
-        id,
+        work[n + NODE_ID],
         start,
         work[n + NODE_LENGTH],
         first,

@@ -4,17 +4,12 @@ use Rattle.balance.proofs.push_typed.Statement.{statement}
 use Rattle.balance.proofs.push_typed.Tie as tie
 
 returns : tie.Need-returns
-returns c =
-    let pushed = c .before .before in
-    let id-found = pushed .before .before in
-    let kind-found = id-found .before in
-    rw (kind-found .stored-kind .ensures, id-found .stored-id .ensures) at (pushed .push-tree .ensures)
+returns c = let pushed = c .before .before in rw (pushed .before .before .stored-kind .ensures) at (pushed .push-tree .ensures)
 
 pub push-typed-spec : {M : Type 1} → statement M
 push-typed-spec =
     tie.close
     (tie.spec
-    (λ c κs. search needs)
     (λ c κs. search needs)
     (λ c κs. search needs)
     (λ c. search needs)

@@ -87,35 +87,33 @@ row-size-requires c κs =
 shared-slice-read-stored-kind : tie.Need-shared-slice-read-stored-kind
 shared-slice-read-stored-kind c = omega (arith, top-inside (given (c .before .before .before)))
 
-shared-slice-read-stored-id : tie.Need-shared-slice-read-stored-id
-shared-slice-read-stored-id c = omega (arith, top-inside (given (c .before .before .before .before .before)))
+shared-slice-read-t20 : tie.Need-shared-slice-read-t20
+shared-slice-read-t20 c = omega (arith, top-inside (given (c .before .before .before .before .before)))
 
-shared-slice-read-t23 : tie.Need-shared-slice-read-t23
-shared-slice-read-t23 c = omega (arith, top-inside (given (c .before .before .before .before .before .before .before)))
+shared-slice-read-t22 : tie.Need-shared-slice-read-t22
+shared-slice-read-t22 c = omega (arith, top-inside (given (c .before .before .before .before .before .before)))
 
 balance-range-requires : tie.Need-balance-range-requires
 balance-range-requires c κs =
-    let own-id = c .before .before .stored-id in
-    let own-kind = c .before .before .before .before .stored-kind in
-    let row = c .before .before .before .before .before .before .row-size in
-    let k = c .before .before .before .before .before .before .before .before in
+    let own-kind = c .before .before .before .stored-kind in
+    let row = c .before .before .before .before .before .row-size in
+    let k = c .before .before .before .before .before .before .before in
     let z = given k in
     let size-is = row-total (z .args .none-first) (held z) (cs z) (ws z) (n z) (high z) (low z) (building z) (room z) (many k) (kids k) (kids-is k) (row .result) (row .ensures) in
     range-ready (z .args .none-first) (held z) (cs z) (ws z) (n z) (high z) (low z) (building z) (room z) (many k) (kids k) (kids-is k)
-    (row .result) (own-kind .result) (own-id .result) size-is (own-kind .ensures) (own-id .ensures)
+    (row .result) (own-kind .result) size-is (own-kind .ensures)
 
 returns-2 : tie.Need-returns-2
 returns-2 c =
     let made = c .before .before .balance-range in
-    let own-id = c .before .before .before .before .before .stored-id in
-    let own-kind = c .before .before .before .before .before .before .before .stored-kind in
-    let row = c .before .before .before .before .before .before .before .before .before .row-size in
-    let k = c .before .before .before .before .before .before .before .before .before .before .before in
+    let own-kind = c .before .before .before .before .before .before .stored-kind in
+    let row = c .before .before .before .before .before .before .before .before .row-size in
+    let k = c .before .before .before .before .before .before .before .before .before .before in
     let z = given k in
     λ ws b.
     let size-is = row-total (z .args .none-first) (held z) (cs z) ws (n z) (high z) (low z) b (room z) (many k) (kids k) (kids-is k) (row .result) (row .ensures) in
     divided-standing (z .args .none-first) (held z) (cs z) ws (n z) (high z) (low z) b (room z) (many k) (kids k) (kids-is k)
-    (row .result) (own-kind .result) (own-id .result) size-is (own-kind .ensures) (own-id .ensures)
+    (row .result) (own-kind .result) size-is (own-kind .ensures)
     (made .last .0) (made .result .top) (made .result .node) (made .ensures)
 
 pub rebuild-spec : {M : Type 1} → statement M
@@ -130,9 +128,8 @@ rebuild-spec =
     row-size-requires
     shared-slice-read-stored-kind
     (λ c κs. search needs)
-    shared-slice-read-stored-id
-    (λ c κs. search needs)
-    shared-slice-read-t23
+    shared-slice-read-t20
+    shared-slice-read-t22
     balance-range-requires
     (λ c. search needs)
     returns-2)

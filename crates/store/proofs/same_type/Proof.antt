@@ -1,6 +1,6 @@
 -- `store::same_type` meets its contract: a node's type compared. Assumes nothing.
 use native.Mathlib.Nat.{add-zero}
-use Rattle.store.proofs.Cell.{typed-kind, typed-none, typed-id}
+use Rattle.store.proofs.Cell.{typed-kind, typed-id}
 use denote.Ref.{now}
 use borrow.Author.Needs.{needs}
 use Rattle.store.proofs.same_type.Statement.{statement}
@@ -17,15 +17,7 @@ returns-2 c =
     let same-kind = c .before in
     let known = same-kind .before .before in
     let a = known .before .before .args in
-    typed-none (now (a .work)) (known .index .result) (a .node) (a .kind) (a .id) (known .index .ensures) (simp add-zero at (same-kind .if1 .left)) (c .if2 .taken)
-
-returns-3 : tie.Need-returns-3
-returns-3 c =
-    let id-read = c .before in
-    let same-kind = id-read .before in
-    let known = same-kind .before .before in
-    let a = known .before .before .args in
-    typed-id (now (a .work)) (known .index .result) (a .node) (a .kind) (a .id) (known .index .ensures) (simp add-zero at (same-kind .if1 .left)) (id-read .if2 .left)
+    typed-id (now (a .work)) (known .index .result) (a .node) (a .kind) (a .id) (known .index .ensures) (simp add-zero at (same-kind .if1 .left))
 
 pub same-type-spec : {M : Type 1} → statement M
 same-type-spec =
@@ -36,8 +28,7 @@ same-type-spec =
     (λ c. search needs)
     (λ c. search needs)
     returns
-    returns-2
     (λ c. search needs)
     (λ c. search needs)
     (λ c. search needs)
-    returns-3)
+    returns-2)
