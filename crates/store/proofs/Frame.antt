@@ -1,22 +1,21 @@
 -- Laws of trees held in a store: they stay where their words stay, and what their nodes tell. Assumes nothing.
-use mathlib.Core.Path.{_≡_, refl, sym, ap, subst, _∙_}
+use mathlib.Core.Path.{_≡_, refl, sym, subst, _∙_}
 use mathlib.Core.List.{List, [], _∷_}
 use mathlib.Core.Bool.{Bool, true, false, cond}
-use mathlib.Core.Option.{Option, none, some}
+use mathlib.Core.Option.{Option}
 use Prim.Native.Nat.{ℕ, zero, suc, _+_, _-_, min, max, _≤_, _<_}
 use native.Mathlib.Omega.{arith}
-use native.Mathlib.Decide.{ℕ-discrete}
 use borrow.Author.Tests.{eq-eqb, ne-eqb}
-use lib.Dec.{T as So, eqb}
+use lib.Dec.{T as So}
 use lib.ListN.{length, getD, set, length-append, length-set}
 use lib.Seq.{getD-set-same, getD-set-other}
 use Rattle.tree.specs.Trees.{Trees, nil, tree, part, nodes, siblings}
 use Rattle.tree.specs.Cells.{packed, id-word}
-use Rattle.tree.specs.Balance.{SetType, in-set, type-under, equal-types, all-of, total, same-type}
+use Rattle.tree.specs.Balance.{SetType, in-set, type-under, all-of, total, same-type}
 use Rattle.tree.proofs.BalanceLaws.{same-refl, equal-is, all-of-counted, total-counted}
 use Rattle.store.proofs.Types.{typed-is, typed-part}
 use Rattle.words.specs.Words.{put}
-use Rattle.store.specs.Store.{likes, typed, liked, liked-on, word, stored-kind, Node, Staged, Holds, Same, told, Readable, PushedTree, PushedPart, StagedMore}
+use Rattle.store.specs.Store.{likes, liked, liked-on, word, stored-kind, Node, Staged, Holds, Same, told, Readable, PushedTree, PushedPart, StagedMore}
 use Rattle.words.proofs.Stores.{put-length, put-in, put-before, put-after}
 
 pub same-less : (w w′ : List ℕ) (base top low base′ top′ low′ : ℕ) → base ≤ base′ → top′ ≤ top → low ≤ low′ → Same w w′ base top low → Same w w′ base′ top′ low′

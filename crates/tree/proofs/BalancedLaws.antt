@@ -1,6 +1,6 @@
--- `Tree::balance`: up to 8 children are untouched; else the top stays and its children are divided. Packed words and the cell
--- rules stay. Listed nodes keep id, range, order and depth, but for id 0 where place 0 of the set is none: the lines without id 0
--- are the same. Nine or more children never end as one, so the top is never taken away. Assumes nothing.
+-- `Tree::balance` on either set: up to 8 children are untouched; else the top stays and its children are divided. Packed words and the
+-- cell rules stay; what stays of a listing is in BalanceLists. Nine or more children never end as one, so the top is never taken away.
+-- Assumes nothing.
 use mathlib.Core.Path.{_≡_, refl, sym, ap, subst, _∙_}
 use mathlib.Core.Bool.{Bool, true, false, _&&_}
 use mathlib.Core.List.{List, [], _∷_, _++_, append-nil}
@@ -14,17 +14,14 @@ use lib.ListN.{length}
 use borrow.Author.Tests.{le-leb, lt-leb}
 use Rattle.tree.specs.Trees.{Trees, nil, tree, part, _⊕_, nodes, siblings, kids-of, first-start, last-end}
 use Rattle.tree.specs.Balance.{SetType, in-set, type-under, same-type, all-of, total, share, groups, lone, is-tree, joined, placed, each, divide, balance, balanced}
-use Rattle.tree.specs.Listing.{node-line, node-below, listing, lines}
 use Rattle.tree.specs.Cells.{relative, packed, cells, tree-cells}
-use Rattle.tree.specs.Calls.{written, materialise-cells, balance-cells, list-cells}
-use Rattle.tree.proofs.ListingLaws.{view, view-⊕, view-nil, view-tree}
+use Rattle.tree.specs.Calls.{written, balance-cells}
 use Rattle.tree.proofs.BalanceLaws.{equal-is, kept-divided, share-pos}
 use Rattle.tree.proofs.FuelLaws.{Group, Groups, groups-small, total-kids, several-pos, share-≤}
 use Rattle.tree.proofs.SizeLaws.{two-groups, some-group, size, one, size-one, size-divide}
-use Rattle.tree.proofs.CellLaws.{shift, shift-⊕, shift-zero}
 use Rattle.tree.proofs.WordLaws.{packed-⊕}
 use Rattle.tree.proofs.WellLaws.{well-divide}
-use Rattle.tree.proofs.KeptLaws.{Kept, kept-read, kept-lines}
+use Rattle.tree.proofs.KeptLaws.{Kept, kept-read}
 use Rattle.tree.specs.Well.{Parts, Sound}
 
 -- some siblings stay some siblings

@@ -2,7 +2,6 @@
 use Rattle.balance_core.proofs.Sizes.{sizable-kids, sized-same, sized-other}
 use denote.Ref.{now}
 use mathlib.Core.Path.{sym, _∙_}
-use native.Mathlib.Omega.{arith}
 use borrow.Author.Needs.{needs}
 use Rattle.balance_core.proofs.balanced_node_size.Statement.{statement}
 use Rattle.balance_core.proofs.balanced_node_size.Tie as tie
