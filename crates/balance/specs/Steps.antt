@@ -10,7 +10,7 @@ use Rattle.words.specs.Outcome.{Result, settled}
 use Rattle.words.specs.Words.{front}
 use Rattle.tree.specs.Trees.{Trees, nil, tree, part, nodes}
 use Rattle.tree.specs.Cells.{packed, tree-cells, cell-width, cell-kind, cell-position, cell-first, cell-next}
-use Rattle.store.specs.Store.{Holds, Staged, node-width}
+use Rattle.store.specs.Store.{Holds, Staged, first-of-set, node-width}
 use Rattle.rules.specs.Lowest.{bad-cell}
 use Rattle.rules.specs.Calls.{items, most-items, result-room, handed-in}
 
@@ -55,9 +55,9 @@ pub record Linked (cs held : List ℕ) (i : ℕ) : Type 0 where
 abbrev pub Based : (held : List ℕ) (n : ℕ) → Trees → Type 0
 Based held n ts = (k : ℕ) → k < n → getD held k 0 ≡ getD (bases 0 ts) k 0
 
--- The kind by which the store has a cell of kind 1 or 3: where place 0 of the set is none, 7 for kind 1 with id 0.
+-- The kind by which the store has a cell of kind 1 or 3: where place 0 of the set is none, one of its own for kind 1 with id 0.
 abbrev pub kind-stored : (none-first : Bool) (kind id : ℕ) → ℕ
-kind-stored f k i = cond f (cond (eqb k 1) (cond (eqb i 0) 7 k) k) k
+kind-stored f k i = cond f (cond (eqb k 1) (cond (eqb i 0) first-of-set k) k) k
 
 -- Where the node of cell x stands, counted from 1, if nodes go up to `high`; 0 for none.
 unfoldable pub address : (high x : ℕ) → ℕ

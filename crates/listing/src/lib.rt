@@ -147,7 +147,8 @@ fn write_lines(
     }
 }
 
-// The call `list`: 1, 11, 15, 14; then the lines.
+// The call `list`: 1, 11, 15, 14; then the lines. It does not look at the node set: id 0 is listed where it is ordinary, whatever place 0
+// of the set is.
 pub fn list(
     types: u32,
     first_repeat: u32,

@@ -329,7 +329,8 @@ pub enum Materialized {
     Refused(u32, usize),
 }
 
-// Materialise: 1, 11, 15, 12; then the cells of the tree with its packed records as trees.
+// Materialise: 1, 11, 15, 12; then the cells of the tree with its packed records as trees. It does not look at the node set: a tree or
+// record of id 0 is one of kind 1 with id 0, whatever place 0 of the set is.
 pub fn materialize(
     types: u32,
     cells: &[u32],

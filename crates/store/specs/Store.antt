@@ -20,12 +20,16 @@ word n = min n 4294967295
 unfoldable pub likes : (t : SetType) → Trees → ℕ
 likes t ts = cond (all-of t ts) (word (suc (total t ts))) 0
 
--- The kind by which a node, beside its id, tells its type. Kinds are compared modulo 4. Where place 0 of the set is none, a tree of id 0
--- has the kind 7: it compares as none does, and its cell still has kind 1.
+-- the kind of a node that stands for a tree of id 0 where place 0 of the set is none
+abbrev pub first-of-set : ℕ
+first-of-set = 7
+
+-- The kind by which a node, beside its id, tells its type. Kinds are compared modulo 4, so that a tree of id 0 compares as none does where
+-- place 0 of the set is none; its cell still has kind 1.
 abbrev pub kind-under : (none-first : Bool) → Option ℕ → ℕ
 kind-under false t = kind t
 kind-under true none = 3
-kind-under true (some zero) = 7
+kind-under true (some zero) = first-of-set
 kind-under true (some (suc i)) = 1
 
 abbrev pub stored-kind : SetType → ℕ
@@ -33,7 +37,7 @@ stored-kind t = kind-under (t .none-first) (t .type)
 
 -- the kind of the cell that a tree's node is written as
 abbrev pub kind-written : (kind : ℕ) → ℕ
-kind-written k = cond (eqb k 7) 1 k
+kind-written k = cond (eqb k first-of-set) 1 k
 
 -- how many words a node has
 abbrev pub node-width : ℕ
