@@ -1,7 +1,7 @@
 -- What balancing keeps of a listing. Without none in place 0 of the set it lists as before. With it a node of id 0 may go, and those
 -- inside it then stand one level higher; with id 0 left out of lines and of depth, in parts too, the lines are the same for every F.
 -- Assumes nothing.
-use mathlib.Core.Path.{_≡_, refl, sym, ap, ap₂, _∙_}
+use mathlib.Core.Path.{_≡_, refl, sym, ap, ap₂, subst, _∙_}
 use mathlib.Core.Bool.{Bool, true, false}
 use mathlib.Core.List.{List, [], _++_}
 use mathlib.Core.Option.{Option, none, some}
@@ -14,10 +14,11 @@ use Rattle.tree.specs.Listing.{node-line, node-below, listing, lines}
 use Rattle.tree.specs.Balance.{type-under, equal-types, all-of, total, share, grows, groups-from, groups, lone, is-tree, joined, placed, each, divide, balance, balanced}
 use Rattle.tree.specs.Cells.{absolute, decode}
 use Rattle.tree.specs.Calls.{materialise-cells, balance-cells, list-cells}
-use Rattle.tree.proofs.ListingLaws.{listing-⊕, materialise-⊕}
+use Rattle.tree.proofs.ListingLaws.{listing-⊕, materialise-⊕, view, view-⊕, view-nil, view-tree}
+use Rattle.tree.proofs.BalanceLaws.{Hidden, view-hidden}
 use Rattle.tree.proofs.CellLaws.{shift, shift-⊕}
 use Rattle.tree.proofs.KeptLaws.{Kept, materialised-from}
-use Rattle.tree.proofs.BalancedLaws.{rebuilt, rebuilt-keeps, balance-keeps, kids-rebuilt}
+use Rattle.tree.proofs.BalancedLaws.{balanced-is, rebuilt, rebuilt-keeps, balance-keeps, kids-rebuilt}
 
 -- siblings with each type as it counts under a set: where place 0 of the set is none, id 0 is none
 unfoldable pub as-counted : (none-first : Bool) → Trees → Trees
@@ -89,6 +90,20 @@ pub balance-lists : (T hi : ℕ) (cs ws : List ℕ) → Kept T hi cs ws → (F S
 balance-lists T hi cs ws k F S types =
     sym (list-all F S (materialise-cells ((balance-cells false cs ws) .cells) ((balance-cells false cs ws) .words)))
     ∙ (balance-lists-counted false T hi cs ws k F S types ∙ list-all F S (materialise-cells cs ws))
+
+-- So it is of trees as they stand: each ordinary node keeps its id, its range, its place in the order and its depth.
+view-rebuilt : (F d : ℕ) (kids : Trees) → view F d (rebuilt false kids) ≡ view F d kids
+view-rebuilt F d kids =
+    rebuilt-keeps false (view F d) (view-nil F d) (view-⊕ F d) (λ u s l ks r e. view-hidden F d u s l ks r (subst (Hidden F) (sym e) tt)) kids
+
+pub view-balanced : (F d : ℕ) (ts : Trees) → view F d (balanced false ts) ≡ view F d ts
+unfolding balanced
+view-balanced F d nil = refl
+view-balanced F d (part s l ws rest) = refl
+view-balanced F d (tree t s l kids rest) =
+    ap (view F d) (balanced-is false t s l kids rest)
+    ∙ (view-tree F d t s l (rebuilt false kids) rest
+    ∙ (ap (λ ls. (node-line F d t s (s + l) ++ ls) ++ view F d rest) (view-rebuilt F (node-below F d t) kids) ∙ sym (view-tree F d t s l kids rest)))
 
 -- A node of id 0 goes: a top with eight leaves of id 1 and a ninth child of id 0 that holds three leaves of kind 3. Where place 0 of the
 -- set is none, the ninth counts as none and is divided in place.
