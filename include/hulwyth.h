@@ -35,7 +35,7 @@
  *
  *   hulwyth_build         1.6 MB  1,573,239 bytes where 16,383 records are packed, each in the next; no more can be
  *   the three part calls  40 KB   33,015 bytes for 3 records as for 16,383; 36,087 in the first one, if memset is bound only then
- *   hulwyth_balance       4 KB    2,991 bytes for 44,739,240 siblings, the most that are taken; 2,271 for 1,000,000
+ *   hulwyth_balance       4 KB    2,647 bytes for 44,739,240 siblings, the most that are taken; 2,023 for 1,000,000
  *   the others            1 KB    471 bytes for 1,000,000 nested trees as for a packed part of 3 records
  *
  * A thread of 2 MiB was enough for each call, and one of 64 KiB for each but hulwyth_build.
