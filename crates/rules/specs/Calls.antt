@@ -1,7 +1,7 @@
 -- The outcome of the calls that take a tree: materialise, balance and list. "Tree calls: 1, 11, 15, 12, 13, 14." Refused, the
 -- output slices are unchanged; accepted, only the counted front of each is written. What the work slice held decides nothing;
 -- `work` is its length.
-use mathlib.Core.Bool.{Bool, true, false, cond}
+use mathlib.Core.Bool.{Bool, cond}
 use mathlib.Core.List.{List, [], _∷_}
 use Prim.Native.Nat.{ℕ, _+_, _*_, _/_}
 use lib.Dec.{ltb}
@@ -21,12 +21,12 @@ unfoldable pub items : (cs ws : List ℕ) → ℕ
 items cs ws = length cs / cell-width + length ws / record-width
 
 -- "1: T above 65,536"; "11: work slice below 96 × items + 96 words"; 15, at the lowest cell that breaks a rule; then what follows.
--- Absolute ends are counted from S; `parts`: are parts allowed?
-unfoldable pub unless-bad : (T S : ℕ) (parts : Bool) (cs ws : List ℕ) (work : ℕ) → Outcome → Outcome
-unless-bad T S parts cs ws work next =
+-- Absolute ends are counted from S.
+unfoldable pub unless-bad : (T S : ℕ) (cs ws : List ℕ) (work : ℕ) → Outcome → Outcome
+unless-bad T S cs ws work next =
     cond (ltb 65536 T) (refused 1 0)
     (cond (ltb work (96 * items cs ws + 96)) (refused 11 0)
-    (unless-found 15 (λ c. c) (bad-cell T S parts cs ws) next))
+    (unless-found 15 (λ c. c) (bad-cell T S cs ws) next))
 
 -- 12 and 13 of a result of n cells and w words, in slices of `cells` and `words` words; else the counts. Cells are named by 32-bit
 -- words. A result of more cells than these can number has no cells at all, so no slice has the space for it: 12.
@@ -34,9 +34,14 @@ unfoldable pub result-room : (n w cells words : ℕ) → Outcome
 result-room n w cells words =
     cond (ltb 4294967295 n) (refused 12 0) (room n w cells words)
 
--- "14: too little space for the result's listing lines": of lines of n words in all, in a slice of `out` words; else their count
+-- "14: too little space for the result's listing lines": of lines of n words in all, in a slice of `out` words; else their count. A
+-- depth is a 32-bit word. Of more lines than 32 bits can number one may lie deeper than such a word can tell, so no slice has the space
+-- for them: 14.
 unfoldable pub lines-room : (n out : ℕ) → Outcome
-lines-room n out = cond (ltb out n) (refused 14 0) (accepted (n / line-width ∷ []))
+lines-room n out =
+    cond (ltb 4294967295 (n / line-width)) (refused 14 0)
+    (cond (ltb out n) (refused 14 0)
+    (accepted (n / line-width ∷ [])))
 
 -- the trees of accepted cells, from 0
 unfoldable pub handed-in : (cs ws : List ℕ) → Trees
@@ -46,7 +51,7 @@ handed-in cs ws = absolute 0 (decode ws cs)
 -- looked at: "materialising treats id 0 as before".
 unfoldable pub materialise-call : (T : ℕ) (cs ws : List ℕ) (work : ℕ) (out : List ℕ) → Result
 materialise-call T cs ws work out =
-    settled (unless-bad T 0 true cs ws work (result-room (nodes (materialise (handed-in cs ws))) 0 (length out) 0))
+    settled (unless-bad T 0 cs ws work (result-room (nodes (materialise (handed-in cs ws))) 0 (length out) 0))
     (front (materialise-cells cs ws) out ∷ []) (out ∷ [])
 
 -- the most items of a tree that balance takes: for these the 96 × items + 96 words of work can still be named by 32-bit words
@@ -64,12 +69,12 @@ balance-room f cs ws cells words =
 unfoldable pub balance-call : (T : ℕ) (none-first : Bool) (cs ws : List ℕ) (work : ℕ) (cells words : List ℕ) → Result
 balance-call T f cs ws work cells words =
     let w = balance-cells f cs ws in
-    settled (unless-bad T 0 true cs ws work (balance-room f cs ws (length cells) (length words)))
+    settled (unless-bad T 0 cs ws work (balance-room f cs ws (length cells) (length words)))
     (front (w .cells) cells ∷ front (w .words) words ∷ []) (cells ∷ words ∷ [])
 
--- List: it takes no packed words and no cell of kind 2, and absolute ends are counted from S. The set is not looked at: "Listing still
--- shows id 0 when it is ordinary."
-unfoldable pub list-call : (T F S : ℕ) (cs : List ℕ) (work : ℕ) (out : List ℕ) → Result
-list-call T F S cs work out =
-    settled (unless-bad T S false cs [] work (lines-room (length (list-cells F S cs)) (length out)))
-    (front (list-cells F S cs) out ∷ []) (out ∷ [])
+-- List: "one call that takes a tree with packed parts"; "15 counts every cell's end from S, a part's too where its records end sooner".
+-- The set is not looked at: "Listing still shows id 0 when it is ordinary."
+unfoldable pub list-call : (T F S : ℕ) (cs ws : List ℕ) (work : ℕ) (out : List ℕ) → Result
+list-call T F S cs ws work out =
+    settled (unless-bad T S cs ws work (lines-room (length (list-cells F S cs ws)) (length out)))
+    (front (list-cells F S cs ws) out ∷ []) (out ∷ [])

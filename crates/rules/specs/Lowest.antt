@@ -44,16 +44,15 @@ unfoldable pub any-of : List Bool → Bool
 any-of [] = false
 any-of (b ∷ bs) = b || any-of bs
 
--- The rules, each with the answer "cell c breaks it". T is the type count, ws the packed words, n the number of cells; `parts`: are
--- parts allowed?
+-- The rules, each with the answer "cell c breaks it". T is the type count, ws the packed words, n the number of cells.
 
 -- "cell 1 is the top, kind 1, position 0, next 0"
 unfoldable pub top-broken : (c : ℕ) → Cell → Bool
 top-broken c k = eqb c 1 && (not (eqb (k .kind) 1) || (not (eqb (k .position) 0) || not (eqb (k .next) 0)))
 
--- "kind (1 tree, 2 packed part, 3 tree of NodeType::none)"; "listing takes a tree without kind 2"
-unfoldable pub kind-broken : (parts : Bool) → Cell → Bool
-kind-broken parts k = not (eqb (k .kind) 1 || (eqb (k .kind) 3 || (is-part k && parts)))
+-- "kind (1 tree, 2 packed part, 3 tree of NodeType::none)"
+unfoldable pub kind-broken : Cell → Bool
+kind-broken k = not (eqb (k .kind) 1 || (eqb (k .kind) 3 || is-part k))
 
 -- "id (0 for kinds 2 and 3)"; "ids are below T"
 unfoldable pub id-broken : (T : ℕ) → Cell → Bool
@@ -122,12 +121,12 @@ first-named c d k ds =
 unfoldable pub words-end : (w : ℕ) → Cell → ℕ
 words-end w k = elim (is-part k) [ true ↦ k .first + k .count | false ↦ w ]
 
-module _ (T : ℕ) (parts : Bool) (ws : List ℕ) (n : ℕ) where
+module _ (T : ℕ) (ws : List ℕ) (n : ℕ) where
   -- Does cell c break a rule? d and ds are the named cells, w is where the parts before it end, ks are the cells after it.
   unfoldable pub broken : (c w : ℕ) (d : Named) (ds : List Named) (k : Cell) (ks : List Cell) → Bool
   broken c w d ds k ks = any-of (
       top-broken c k
-      ∷ kind-broken parts k
+      ∷ kind-broken k
       ∷ id-broken T k
       ∷ link-broken n c (k .next)
       ∷ link-broken n c (first-child k)
@@ -153,11 +152,11 @@ unfoldable pub top-named : (S : ℕ) → Named
 top-named S = record { cell = 1; after = 0; within = none; base = S }
 
 -- Refusal 15: none, or its place: "lowest such cell; 0 if the slice is empty or no multiple of 7". Absolute ends are counted
--- from S; `parts`: are cells of kind 2 allowed?
-unfoldable pub bad-cell : (T S : ℕ) (parts : Bool) (cs ws : List ℕ) → Option ℕ
-bad-cell T S parts cs ws =
+-- from S.
+unfoldable pub bad-cell : (T S : ℕ) (cs ws : List ℕ) → Option ℕ
+bad-cell T S cs ws =
     let ks = cells-of cs in
-    let lowest = lowest-from T parts ws (length ks) 1 0 (top-named S ∷ []) ks in
+    let lowest = lowest-from T ws (length ks) 1 0 (top-named S ∷ []) ks in
     elim (eqb (length cs) 0 || not (eqb (length cs % cell-width) 0)) [
       | true ↦ some 0
       | false ↦ elim lowest [ zero ↦ none | suc c ↦ some (suc c) ]

@@ -4,7 +4,7 @@
 -- holds it: of the cells that it is about, that one is the higher, or the only one.
 -- proofs/SamePlace shows that `Lowest.bad-cell`, which finds the place in one pass, names just this cell.
 use mathlib.Core.Path.{_≡_}
-use mathlib.Core.Bool.{Bool, true, false}
+use mathlib.Core.Bool.{true, false}
 use mathlib.Core.List.{List, _∷_}
 use mathlib.Core.Logic.{_⊎_}
 use Prim.Native.Nat.{ℕ, zero, suc, _+_, _-_, _%_, _≤_, _<_}
@@ -56,8 +56,8 @@ module _ (ks : List Cell) where
   words-before zero = 0
   words-before (suc c) = elim (is-part (cell c)) [ true ↦ cell c .first + cell c .count | false ↦ words-before c ]
 
-  -- T is the type count, S the top's absolute start, ws the packed words; `parts`: are parts allowed?
-  module _ (T S : ℕ) (parts : Bool) (ws : List ℕ) where
+  -- T is the type count, S the top's absolute start, ws the packed words
+  module _ (T S : ℕ) (ws : List ℕ) where
     -- the words of a part
     abbrev pub words-at : Cell → List ℕ
     words-at k = take (k .count) (drop (k .first) ws)
@@ -70,8 +70,6 @@ module _ (ks : List Cell) where
       top-next : c ≡ 1 → (cell c .next ≡ 0 → ⊥) → Breaks c
       -- "kind (1 tree, 2 packed part, 3 tree of NodeType::none)"
       no-kind : (cell c .kind ≡ 1 → ⊥) → (cell c .kind ≡ 2 → ⊥) → (cell c .kind ≡ 3 → ⊥) → Breaks c
-      -- "Listing takes a tree without kind 2, else 15"
-      no-part-here : cell c .kind ≡ 2 → parts ≡ false → Breaks c
       -- "id (0 for kinds 2 and 3)"
       id-of-part : cell c .kind ≡ 2 → (cell c .id ≡ 0 → ⊥) → Breaks c
       id-of-none : cell c .kind ≡ 3 → (cell c .id ≡ 0 → ⊥) → Breaks c
@@ -112,6 +110,6 @@ module _ (ks : List Cell) where
       pub least : (b : ℕ) → 1 ≤ b → b < c → Breaks b → ⊥
 
 -- The place of refusal 15: "lowest such cell; 0 if the slice is empty or no multiple of 7". Without a place 15 does not apply.
-pub data Place (T S : ℕ) (parts : Bool) (cs ws : List ℕ) : (place : ℕ) → Type 0 where
-  no-cells : (length cs ≡ 0) ⊎ (length cs % cell-width ≡ 0 → ⊥) → Place T S parts cs ws 0
-  at-cell : (c : ℕ) → length cs % cell-width ≡ 0 → LowestCell (cells-of cs) T S parts ws c → Place T S parts cs ws c
+pub data Place (T S : ℕ) (cs ws : List ℕ) : (place : ℕ) → Type 0 where
+  no-cells : (length cs ≡ 0) ⊎ (length cs % cell-width ≡ 0 → ⊥) → Place T S cs ws 0
+  at-cell : (c : ℕ) → length cs % cell-width ≡ 0 → LowestCell (cells-of cs) T S ws c → Place T S cs ws c

@@ -38,9 +38,10 @@ materialise-cells cs ws = tree-cells 0 (materialise (absolute 0 (decode ws cs)))
 unfoldable pub balance-cells : (none-first : Bool) (cs ws : List ℕ) → Written
 balance-cells f cs ws = written 0 (balanced f (absolute 0 (decode ws cs)))
 
--- what listing writes of cells: "absolute start and absolute end, both with S added"
-unfoldable pub list-cells : (F S : ℕ) (cs : List ℕ) → List ℕ
-list-cells F S cs = lines F (absolute S (decode [] cs))
+-- What listing writes of cells and packed words: "absolute start and absolute end, both with S added". "The lines are those that the two
+-- calls gave in turn": of the materialised tree.
+unfoldable pub list-cells : (F S : ℕ) (cs ws : List ℕ) → List ℕ
+list-cells F S cs ws = lines F (materialise (absolute S (decode ws cs)))
 
 -- 12 and 13, "too little space for the result's cells (seven words each), packed words": of a result of n cells and w
 -- words, in slices of `cells` and `words` words; else the counts

@@ -20,7 +20,7 @@ unfoldable pub node-below : (F d : ℕ) (type : Option ℕ) → ℕ
 node-below F d none = d
 node-below F d (some i) = depth-below F d i
 
--- the lines of siblings at depth d: "Listing takes a tree without kind 2"
+-- the lines of siblings at depth d; no parts are left where it is used
 unfoldable pub listing : (F d : ℕ) → Trees → List ℕ
 listing F d nil = []
 listing F d (tree t s l kids rest) = (node-line F d t s (s + l) ++ listing F (node-below F d t) kids) ++ listing F d rest

@@ -1,6 +1,6 @@
 -- A run of demand 3: "a build, materialise on the cells and words it wrote, then listing on the cells that materialise
--- wrote, with one T, F and S throughout".
-use mathlib.Core.List.{List}
+-- wrote, with one T, F and S throughout"; and the shorter one, a build and listing on the cells and words it wrote.
+use mathlib.Core.List.{List, []}
 use mathlib.Core.Option.{Option}
 use Prim.Native.Nat.{ℕ, _≤_}
 use Rattle.records.specs.Forest.{levels, reading}
@@ -28,9 +28,13 @@ module _ (F S : ℕ) (r : Run F S) where
   unfoldable pub materialised : List ℕ
   materialised = materialise-cells (built .cells) (built .words)
 
-  -- the lines that listing writes of those
+  -- the lines that listing writes of those, which have no packed words
   unfoldable pub listed : List ℕ
-  listed = list-cells F S materialised
+  listed = list-cells F S materialised []
+
+  -- the lines that listing writes of what the build wrote
+  unfoldable pub listed-straight : List ℕ
+  listed-straight = list-cells F S (built .cells) (built .words)
 
   -- the list's ordinary reading
   unfoldable pub read : List ℕ
