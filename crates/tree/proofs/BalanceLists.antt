@@ -13,11 +13,11 @@ use Rattle.tree.specs.Materialise.{materialise}
 use Rattle.tree.specs.Listing.{node-line, node-below, listing, lines}
 use Rattle.tree.specs.Balance.{type-under, equal-types, all-of, total, share, grows, groups-from, groups, lone, is-tree, joined, placed, each, divide, balance, balanced}
 use Rattle.tree.specs.Cells.{absolute, decode}
-use Rattle.tree.specs.Calls.{materialise-cells, balance-cells, list-cells}
+use Rattle.tree.specs.Calls.{balance-cells, list-cells}
 use Rattle.tree.proofs.ListingLaws.{listing-⊕, materialise-⊕, view, view-⊕, view-nil, view-tree}
 use Rattle.tree.proofs.BalanceLaws.{Hidden, view-hidden}
-use Rattle.tree.proofs.CellLaws.{shift, shift-⊕}
-use Rattle.tree.proofs.KeptLaws.{Kept, materialised-from}
+use Rattle.tree.proofs.CellLaws.{shift, shift-⊕, materialise-shift}
+use Rattle.tree.proofs.KeptLaws.{Kept, kept-from}
 use Rattle.tree.proofs.BalancedLaws.{balanced-is, rebuilt, rebuilt-keeps, balance-keeps, kids-rebuilt}
 
 -- siblings with each type as it counts under a set: where place 0 of the set is none, id 0 is none
@@ -26,9 +26,9 @@ as-counted f nil = nil
 as-counted f (tree t s l kids rest) = tree (type-under f t) s l (as-counted f kids) (as-counted f rest)
 as-counted f (part s l ws rest) = part s l ws (as-counted f rest)
 
--- the lines of cells, with id 0 left out of lines and of depth where place 0 of the set is none
-unfoldable pub list-counted : (none-first : Bool) (F S : ℕ) (cs : List ℕ) → List ℕ
-list-counted f F S cs = lines F (as-counted f (absolute S (decode [] cs)))
+-- the lines of cells and packed words, with id 0 left out of lines and of depth where place 0 of the set is none
+unfoldable pub list-counted : (none-first : Bool) (F S : ℕ) (cs ws : List ℕ) → List ℕ
+list-counted f F S cs ws = lines F (as-counted f (materialise (absolute S (decode ws cs))))
 
 -- without none in place 0 nothing is left out
 as-it-is : (ts : Trees) → as-counted false ts ≡ ts
@@ -37,9 +37,9 @@ as-it-is nil = refl
 as-it-is (tree t s l kids rest) = ap₂ (tree t s l) (as-it-is kids) (as-it-is rest)
 as-it-is (part s l ws rest) = ap (part s l ws) (as-it-is rest)
 
-pub list-all : (F S : ℕ) (cs : List ℕ) → list-counted false F S cs ≡ list-cells F S cs
+pub list-all : (F S : ℕ) (cs ws : List ℕ) → list-counted false F S cs ws ≡ list-cells F S cs ws
 unfolding list-counted list-cells
-list-all F S cs = ap (lines F) (as-it-is (absolute S (decode [] cs)))
+list-all F S cs ws = ap (lines F) (as-it-is (materialise (absolute S (decode ws cs))))
 
 module _ (f : Bool) where
   as-counted-⊕ : (ts us : Trees) → as-counted f (ts ⊕ us) ≡ as-counted f ts ⊕ as-counted f us
@@ -70,26 +70,26 @@ module _ (f : Bool) where
   unfolding seen materialise shift as-counted listing
   seen-rebuilt F d S kids = rebuilt-keeps f (seen F d S) refl (seen-⊕ F d S) (seen-none F d S) kids
 
-  -- the lines of cells that keep the rules, once they are materialised
-  kept-seen : (T hi F S : ℕ) → T ≤ 65536 → (cs ws : List ℕ) (k : Kept T hi cs ws) → list-counted f F S (materialise-cells cs ws) ≡ seen F 0 S (k .kids)
-  unfolding list-counted lines kids-of seen as-counted shift
-  kept-seen T hi F S types cs ws k =
-      ap (λ (v : Trees). lines F (as-counted f v)) (materialised-from T hi S types cs ws k)
+  -- the lines of cells that keep the rules
+  kept-seen : (T hi F S : ℕ) (cs ws : List ℕ) (k : Kept T hi cs ws) → list-counted f F S cs ws ≡ seen F 0 S (k .kids)
+  unfolding list-counted lines kids-of seen as-counted shift materialise
+  kept-seen T hi F S cs ws k =
+      ap (λ (v : Trees). lines F (as-counted f (materialise v))) (kept-from T hi S cs ws k)
+      ∙ ap (λ (v : Trees). listing F 0 (as-counted f v)) (materialise-shift S (k .kids))
 
-  -- On cells and words that keep the cell rules: with id 0 left out where place 0 of the set is none, the materialised result lists
-  -- as the materialised tree.
-  pub balance-lists-counted : (T hi : ℕ) (cs ws : List ℕ) → Kept T hi cs ws → (F S : ℕ) → T ≤ 65536
-      → list-counted f F S (materialise-cells ((balance-cells f cs ws) .cells) ((balance-cells f cs ws) .words)) ≡ list-counted f F S (materialise-cells cs ws)
-  balance-lists-counted T hi cs ws k F S types =
-      kept-seen T hi F S types ((balance-cells f cs ws) .cells) ((balance-cells f cs ws) .words) (balance-keeps f T hi cs ws k)
-      ∙ (ap (seen F 0 S) (kids-rebuilt f T hi cs ws k) ∙ seen-rebuilt F 0 S (k .kids) ∙ sym (kept-seen T hi F S types cs ws k))
+  -- On cells and words that keep the cell rules: with id 0 left out where place 0 of the set is none, the result lists as the tree.
+  pub balance-lists-counted : (T hi : ℕ) (cs ws : List ℕ) → Kept T hi cs ws → (F S : ℕ)
+      → list-counted f F S ((balance-cells f cs ws) .cells) ((balance-cells f cs ws) .words) ≡ list-counted f F S cs ws
+  balance-lists-counted T hi cs ws k F S =
+      kept-seen T hi F S ((balance-cells f cs ws) .cells) ((balance-cells f cs ws) .words) (balance-keeps f T hi cs ws k)
+      ∙ (ap (seen F 0 S) (kids-rebuilt f T hi cs ws k) ∙ seen-rebuilt F 0 S (k .kids) ∙ sym (kept-seen T hi F S cs ws k))
 
 -- On a set without none in place 0 balancing keeps the listing.
-pub balance-lists : (T hi : ℕ) (cs ws : List ℕ) → Kept T hi cs ws → (F S : ℕ) → T ≤ 65536
-    → list-cells F S (materialise-cells ((balance-cells false cs ws) .cells) ((balance-cells false cs ws) .words)) ≡ list-cells F S (materialise-cells cs ws)
-balance-lists T hi cs ws k F S types =
-    sym (list-all F S (materialise-cells ((balance-cells false cs ws) .cells) ((balance-cells false cs ws) .words)))
-    ∙ (balance-lists-counted false T hi cs ws k F S types ∙ list-all F S (materialise-cells cs ws))
+pub balance-lists : (T hi : ℕ) (cs ws : List ℕ) → Kept T hi cs ws → (F S : ℕ)
+    → list-cells F S ((balance-cells false cs ws) .cells) ((balance-cells false cs ws) .words) ≡ list-cells F S cs ws
+balance-lists T hi cs ws k F S =
+    sym (list-all F S ((balance-cells false cs ws) .cells) ((balance-cells false cs ws) .words))
+    ∙ (balance-lists-counted false T hi cs ws k F S ∙ list-all F S cs ws)
 
 -- So it is of trees as they stand: each ordinary node keeps its id, its range, its place in the order and its depth.
 view-rebuilt : (F d : ℕ) (kids : Trees) → view F d (rebuilt false kids) ≡ view F d kids

@@ -94,6 +94,13 @@ module _ (T : ℕ) where
       record { known = w .known; starts = w .starts; inner = plain-sound s (s + l) kids (w .inner); rest = plain-sound (s + l) hi rest (w .rest) }
   plain-sound lo hi (part s l ws rest) w = absurd (w .inner)
 
+  -- a tree without parts is materialised
+  plain-stays : (lo hi : ℕ) (ts : Trees) → Plain T lo hi ts → materialise ts ≡ ts
+  unfolding materialise
+  plain-stays lo hi nil w = refl
+  plain-stays lo hi (tree t s l kids rest) w = ap₂ (tree t s l) (plain-stays s (s + l) kids (w .inner)) (plain-stays (s + l) hi rest (w .rest))
+  plain-stays lo hi (part s l ws rest) w = absurd (w .inner)
+
 relative-absolute : (q : ℕ) (ts : Trees) → relative q (absolute q ts) ≡ ts
 unfolding relative absolute
 relative-absolute q nil = refl
@@ -135,31 +142,28 @@ module _ (T hi : ℕ) (cs ws : List ℕ) (k : Kept T hi cs ws) where
         words-are = sym (packed-plain T 0 hi (materialise (k .kids)) plain);
       }
 
--- cells without packed words, read back with S added
-pub kept-from : (T hi S : ℕ) (cs : List ℕ) (k : Kept T hi cs []) → absolute S (decode [] cs) ≡ shift S (tree (some (k .top)) 0 (k .length) (k .kids) nil)
-kept-from T hi S cs k =
+-- cells and packed words, read back with S added
+pub kept-from : (T hi S : ℕ) (cs ws : List ℕ) (k : Kept T hi cs ws) → absolute S (decode ws cs) ≡ shift S (tree (some (k .top)) 0 (k .length) (k .kids) nil)
+kept-from T hi S cs ws k =
     let u = tree (some (k .top)) 0 (k .length) (k .kids) nil in
-    ap (absolute S) (kept-decode T hi cs [] k)
+    ap (absolute S) (kept-decode T hi cs ws k)
     ∙ (ap (λ q. absolute q (relative 0 u)) (sym (add-zero S))
-    ∙ (absolute-shift S 0 (relative 0 u) ∙ ap (shift S) (ap (absolute 0) (sym (kept-decode T hi cs [] k)) ∙ kept-read T hi cs [] k)))
-
--- what materialise wrote, read back so
-pub materialised-from : (T hi S : ℕ) → T ≤ 65536 → (cs ws : List ℕ) (k : Kept T hi cs ws)
-    → absolute S (decode [] (materialise-cells cs ws)) ≡ shift S (tree (some (k .top)) 0 (k .length) (materialise (k .kids)) nil)
-unfolding materialise-keeps
-materialised-from T hi S types cs ws k = kept-from T hi S (materialise-cells cs ws) (materialise-keeps T hi cs ws k types)
+    ∙ (absolute-shift S 0 (relative 0 u) ∙ ap (shift S) (ap (absolute 0) (sym (kept-decode T hi cs ws k)) ∙ kept-read T hi cs ws k)))
 
 module _ (T hi F S : ℕ) where
-  -- listing of cells without packed words
-  pub kept-listed : (cs : List ℕ) (k : Kept T hi cs []) → list-cells F S cs ≡ listing F 0 (shift S (k .kids))
-  unfolding list-cells lines kids-of shift
-  kept-listed cs k = ap (lines F) (kept-from T hi S cs k)
+  -- listing of cells and packed words: the lines of the tree, counted from S
+  pub kept-listed : (cs ws : List ℕ) (k : Kept T hi cs ws) → list-cells F S cs ws ≡ view F 0 (shift S (k .kids))
+  unfolding list-cells lines kids-of shift materialise view
+  kept-listed cs ws k = ap (λ (u : Trees). lines F (materialise u)) (kept-from T hi S cs ws k)
 
-  -- listing of what materialise wrote: the lines of the tree, counted from S
-  pub kept-lines : T ≤ 65536 → (cs ws : List ℕ) (k : Kept T hi cs ws) → list-cells F S (materialise-cells cs ws) ≡ view F 0 (shift S (k .kids))
+  -- Listing of what materialise wrote, which has no packed words, gives the lines that listing gives of what it was made of.
+  pub listed-in-turn : T ≤ 65536 → (cs ws : List ℕ) → Kept T hi cs ws → list-cells F S (materialise-cells cs ws) [] ≡ list-cells F S cs ws
   unfolding materialise-keeps view
-  kept-lines types cs ws k =
-      kept-listed (materialise-cells cs ws) (materialise-keeps T hi cs ws k types) ∙ ap (listing F 0) (sym (materialise-shift S (k .kids)))
+  listed-in-turn types cs ws k =
+      let plain = plain-materialise T types 0 hi (k .kids) (k .sound) in
+      kept-listed (materialise-cells cs ws) [] (materialise-keeps T hi cs ws k types)
+      ∙ (ap (listing F 0) (materialise-shift S (materialise (k .kids)) ∙ (ap (shift S) (plain-stays T 0 hi (materialise (k .kids)) plain) ∙ sym (materialise-shift S (k .kids))))
+      ∙ sym (kept-listed cs ws k))
 
 -- how many cells materialise writes of cells that keep the rules
 kept-size : (T hi : ℕ) (cs ws : List ℕ) (k : Kept T hi cs ws) → length (materialise-cells cs ws) ≡ cell-width * suc (nodes (materialise (k .kids)) + 0)
@@ -227,15 +231,19 @@ module _ (T F b S top : ℕ) (given : Option ℕ) (list : List ℕ) (fits : S �
   pub materialise-kept : Kept T (behind S f - S) (materialise-cells ((build-cells F b S top given f) .cells) ((build-cells F b S top given f) .words)) []
   materialise-kept = materialise-keeps T (behind S f - S) ((build-cells F b S top given f) .cells) ((build-cells F b S top given f) .words) build-kept (a .types)
 
-  -- materialise and listing, each on what the one before it wrote, give the lines of the built tree
-  pub cells-give-lines : list-cells F S (materialise-cells ((build-cells F b S top given f) .cells) ((build-cells F b S top given f) .words)) ≡ tree-lines F b S top given f
+  -- listing of what the build wrote gives the lines of the built tree
+  pub cells-give-lines : list-cells F S ((build-cells F b S top given f) .cells) ((build-cells F b S top given f) .words) ≡ tree-lines F b S top given f
   unfolding build-cells written build packed tree-lines lines materialise kids-of view kept-written
   cells-give-lines =
       let kids = first-level F b S f in
       let t = build F b S top given f in
       let k = kept-written T S (behind S f) kids built-sound top (Option·getD given (last-end S kids - S)) (a .top-known) in
-      ap (λ (w : List ℕ). list-cells F S (materialise-cells (tree-cells S t) w)) (append-nil (packed kids))
-      ∙ (kept-lines T (behind S f - S) F S (a .types) (tree-cells S t) (packed kids) k ∙ ap (view F 0) (counted-up T S (behind S f) kids built-sound))
+      ap (λ (w : List ℕ). list-cells F S (tree-cells S t) w) (append-nil (packed kids))
+      ∙ (kept-listed T (behind S f - S) F S (tree-cells S t) (packed kids) k ∙ ap (view F 0) (counted-up T S (behind S f) kids built-sound))
+
+  -- and so does listing of what materialise makes of it
+  pub trees-give-lines : list-cells F S (materialise-cells ((build-cells F b S top given f) .cells) ((build-cells F b S top given f) .words)) [] ≡ tree-lines F b S top given f
+  trees-give-lines = listed-in-turn T (behind S f - S) F S (a .types) ((build-cells F b S top given f) .cells) ((build-cells F b S top given f) .words) build-kept ∙ cells-give-lines
 
   -- how many cells materialise writes: those of the materialised tree
   pub materialised-size : length (materialise-cells ((build-cells F b S top given f) .cells) ((build-cells F b S top given f) .words)) ≡ cell-width * nodes (materialise (build F b S top given f))

@@ -17,7 +17,7 @@ use Rattle.tree.specs.Trees.{nodes}
 use Rattle.tree.specs.Build.{build}
 use Rattle.tree.specs.Cells.{cell-width, packed, tree-cells}
 use Rattle.tree.specs.Calls.{written, build-cells, build-call}
-use Rattle.tree.specs.Run.{Run, built, materialised, listed, read}
+use Rattle.tree.specs.Run.{Run, Form, built, materialised, listed, read}
 use Rattle.tree.proofs.CellLaws.{length-tree-cells}
 use Rattle.tree.proofs.CountLaws.{few-cells, few-materialised}
 use Rattle.tree.proofs.WordLaws.{few-words}
@@ -94,9 +94,9 @@ module _ (F S : ℕ) (fits : S ≤ 4294967295) (r : Run F S) where
       )
 
   -- n lines are enough for the listing
-  pub listed-lines : length (listed F S r) ≤ 4 * n
+  pub listed-lines : (f : Form) → length (listed F S r f) ≤ 4 * n
   unfolding read
-  listed-lines = omega (arith, ap length (one-run F S fits r), length-reading F 0 (parse (r .records)), counted)
+  listed-lines f = omega (arith, ap length (one-run F S fits r f), length-reading F 0 (parse (r .records)), counted)
 
   -- what the build writes keeps the cell rules, and so does what materialise writes of it, without parts
   pub built-kept : Kept (r .types) (behind S (parse (r .records)) - S) ((built F S r) .cells) ((built F S r) .words)

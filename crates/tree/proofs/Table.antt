@@ -38,7 +38,7 @@ build-P b = build-call 4 4 b 0 0 none 384 P (nines 28) (nines 12)
 
 -- the lines of what a build wrote: materialise on its cells and words, listing on the cells of that
 abbrev pub listed-from : (F S : ℕ) (cells words : List ℕ) → List ℕ
-listed-from F S cells words = list-cells F S (materialise-cells cells words)
+listed-from F S cells words = list-cells F S (materialise-cells cells words) []
 
 -- the cells and words of P with b 1,024, 5 and 1
 abbrev pub cells-1024 : List ℕ
@@ -108,17 +108,20 @@ pub builds : Builds
 unfolding nines count behind nearest farther parse-from parse own-fault fills record-fault records-check in-place or-else range-fault list-range-fault list-check check _⊕_ nodes siblings is-nil kids-of first-start last-end repeats same items records first leftmost width words stopped early scan long packs run-from entry pack run-part equal-types all-of total share grows groups-from groups lone is-tree joined placed each divide balance fresh gather close pass rest-closed finish flattened flat-words held-end flat-part hold limit full ends too-deep flat walk first-level build relative packed unless-none kind id-word cells tree-cells written build-cells room build-call
 builds = (refl, refl, refl, refl, refl, refl, refl)
 
--- what materialising and listing write of each build of P: its ordinary reading
+-- what materialising and listing, and listing alone, write of each build of P: its ordinary reading
 abbrev pub Listings : Type 0
 Listings =
     (listed-from 4 0 cells-1024 words-1024 ≡ lines-P)
     × (listed-from 4 0 cells-5 words-5 ≡ lines-P)
     × (listed-from 4 0 cells-1 [] ≡ lines-P)
+    × (list-cells 4 0 cells-1024 words-1024 ≡ lines-P)
+    × (list-cells 4 0 cells-5 words-5 ≡ lines-P)
+    × (list-cells 4 0 cells-1 [] ≡ lines-P)
     × (reading 4 0 (parse P) ≡ lines-P)
 
 pub listings : Listings
 unfolding reading line depth-below count nearest farther parse-from parse _⊕_ nodes siblings kids-of within beyond unpack materialise node-line node-below listing lines relative absolute packed unless-none kind id-word cells tree-cells leading following cell-tree decode-from decode materialise-cells list-cells
-listings = (refl, refl, refl, refl)
+listings = (refl, refl, refl, refl, refl, refl, refl)
 
 -- ten leaf trees balance to ten children, eleven to six
 pub balances : (children 10 ≡ 10) × (children 11 ≡ 6)

@@ -1,5 +1,4 @@
--- A run of demand 3: "a build, materialise on the cells and words it wrote, then listing on the cells that materialise
--- wrote, with one T, F and S throughout"; and the shorter one, a build and listing on the cells and words it wrote.
+-- A run of demand 3, in its two forms.
 use mathlib.Core.List.{List, []}
 use mathlib.Core.Option.{Option}
 use Prim.Native.Nat.{ℕ, _≤_}
@@ -19,6 +18,12 @@ pub record Run (F S : ℕ) : Type 0 where
   pub accepted : Accepted types bound top S records
   pub nested : levels (parse records) ≤ 2503
 
+-- "a build, materialise on the cells and words it wrote, then listing on the cells that materialise wrote, with one T, F and S
+-- throughout"; or, since listing takes packed parts, a build and listing on the cells and words it wrote
+pub data Form : Type 0 where
+  materialising : Form
+  straight : Form
+
 module _ (F S : ℕ) (r : Run F S) where
   -- the cells and packed words that the build writes
   unfoldable pub built : Written
@@ -28,13 +33,10 @@ module _ (F S : ℕ) (r : Run F S) where
   unfoldable pub materialised : List ℕ
   materialised = materialise-cells (built .cells) (built .words)
 
-  -- the lines that listing writes of those, which have no packed words
-  unfoldable pub listed : List ℕ
-  listed = list-cells F S materialised []
-
-  -- the lines that listing writes of what the build wrote
-  unfoldable pub listed-straight : List ℕ
-  listed-straight = list-cells F S (built .cells) (built .words)
+  -- the lines that listing writes: of those, without packed words, or of what the build wrote
+  unfoldable pub listed : Form → List ℕ
+  listed materialising = list-cells F S materialised []
+  listed straight = list-cells F S (built .cells) (built .words)
 
   -- the list's ordinary reading
   unfoldable pub read : List ℕ
