@@ -106,7 +106,7 @@ module _ (F p d : ℕ) where
       ap (λ (now : List ℕ). line F (d + length now) i (p + s) (p + e) ++ part-lines F p d (off + 4) (cond (ltb i F) (x ∷ now) now) ws) (open-passed off gone es a)
 
   -- the first record of the words
-  lines-step : (off : ℕ) (around : List ℕ) (i s e x : ℕ) (ws es : List ℕ) → open-ends off around ≡ es
+  pub lines-step : (off : ℕ) (around : List ℕ) (i s e x : ℕ) (ws es : List ℕ) → open-ends off around ≡ es
       → part-lines F p d off around (i ∷ s ∷ e ∷ x ∷ ws) ≡ line F (d + length es) i (p + s) (p + e) ++ part-lines F p d (off + 4) (cond (ltb i F) (x ∷ es) es) ws
   unfolding part-lines
   lines-step off around i s e x ws es h =
@@ -171,7 +171,7 @@ module _ (F p d : ℕ) where
       behind false y z = z
 
 -- the lines of a part that keeps the rules are those of its trees
-part-listing : (F d T s l : ℕ) (ws : List ℕ) → Parts T s l ws → part-lines F s d 0 [] ws ≡ listing F d (unpack s 0 ws)
+pub part-listing : (F d T s l : ℕ) (ws : List ℕ) → Parts T s l ws → part-lines F s d 0 [] ws ≡ listing F d (unpack s 0 ws)
 unfolding part-lines
 part-listing F d T s l ws h =
     let us = unpack s 0 ws in

@@ -28,7 +28,7 @@ use Rattle.tree.specs.Well.{Plain, Short, Parts, spelled}
 abbrev Cuts : Trees → (n : ℕ) → Type 0
 Cuts ts n = nodes (within ts n) ≡ n
 
-within-beyond : (ts : Trees) (n : ℕ) → within ts n ⊕ beyond ts n ≡ ts
+pub within-beyond : (ts : Trees) (n : ℕ) → within ts n ⊕ beyond ts n ≡ ts
 unfolding within beyond _⊕_
 within-beyond nil n = refl
 within-beyond (tree t s l kids rest) zero = refl
