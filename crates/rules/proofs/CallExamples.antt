@@ -28,9 +28,9 @@ unfoldable balances : (T : ℕ) (cs ws : List ℕ) (work : ℕ) (out words : Lis
 unfolding bad-cell cells-of first-child chain chains any-part named top-broken kind-broken id-broken link-broken count-broken place-broken order-broken inside-broken end-broken part-broken stray-broken any-of broken next-named first-named words-end lowest-from top-named part-kept ranges bound earliest still part-check faults-from fault own-fault crosses items unless-bad result-room room handed-in balance-room balance-call nodes relative absolute packed unless-none kind id-word cells leading following cell-tree decode-from decode tree-cells siblings balanced balance-cells written
 balances T cs ws work out words = balance-call T false cs ws work out words
 
-unfoldable pub listed : (T F S : ℕ) (cs : List ℕ) (work : ℕ) (out : List ℕ) → Result
-unfolding bad-cell cells-of first-child chain chains any-part named top-broken kind-broken id-broken link-broken count-broken place-broken order-broken inside-broken end-broken part-broken stray-broken any-of broken next-named first-named words-end lowest-from top-named part-kept ranges bound earliest still part-check faults-from fault own-fault crosses items unless-bad lines-room list-call absolute leading following cell-tree decode-from decode lines list-cells listing node-line node-below line depth-below kids-of
-listed T F S cs work out = list-call T F S cs work out
+unfoldable pub listed : (T F S : ℕ) (cs ws : List ℕ) (work : ℕ) (out : List ℕ) → Result
+unfolding bad-cell cells-of first-child chain chains any-part named top-broken kind-broken id-broken link-broken count-broken place-broken order-broken inside-broken end-broken part-broken stray-broken any-of broken next-named first-named words-end lowest-from top-named part-kept ranges bound earliest still part-check faults-from fault own-fault crosses items unless-bad lines-room list-call _⊕_ nodes within beyond unpack materialise absolute leading following cell-tree decode-from decode lines list-cells listing node-line node-below line depth-below kids-of
+listed T F S cs ws work out = list-call T F S cs ws work out
 
 -- P with b 1,024 and with b 1
 abbrev part-cells : List ℕ
@@ -83,18 +83,63 @@ words-short : balances 4 part-cells part-words 576 (replicate 14 9) (replicate 1
 unfolding balances
 words-short = refl
 
--- three lines with S added; a part is refused, whatever its words
-three-lines : listed 4 4 10 tree-of-four 480 (replicate 13 9) ≡ record {
+-- three lines with S added, of cells without words
+three-lines : listed 4 4 10 tree-of-four [] 480 (replicate 13 9) ≡ record {
   outcome = accepted (3 ∷ []);
   outputs = (0 ∷ 3 ∷ 10 ∷ 16 ∷ 1 ∷ 1 ∷ 10 ∷ 12 ∷ 1 ∷ 2 ∷ 13 ∷ 15 ∷ 9 ∷ []) ∷ [];
 }
 unfolding listed
 three-lines = refl
 
-lines-short : listed 4 4 0 tree-of-four 480 (replicate 11 9) ≡ record { outcome = refused 14 0; outputs = replicate 11 9 ∷ [] }
+lines-short : listed 4 4 0 tree-of-four [] 480 (replicate 11 9) ≡ record { outcome = refused 14 0; outputs = replicate 11 9 ∷ [] }
 unfolding listed
 lines-short = refl
 
-no-part-listed : listed 4 4 0 part-cells 480 [] ≡ record { outcome = refused 15 2; outputs = [] ∷ [] }
+-- the same lines straight from the packed part, whose five items ask 576 words of work
+part-listed : listed 4 4 10 part-cells part-words 576 (replicate 13 9) ≡ record {
+  outcome = accepted (3 ∷ []);
+  outputs = (0 ∷ 3 ∷ 10 ∷ 16 ∷ 1 ∷ 1 ∷ 10 ∷ 12 ∷ 1 ∷ 2 ∷ 13 ∷ 15 ∷ 9 ∷ []) ∷ [];
+}
 unfolding listed
-no-part-listed = refl
+part-listed = refl
+
+part-work-short : listed 4 4 10 part-cells part-words 575 (replicate 13 9) ≡ record { outcome = refused 11 0; outputs = replicate 13 9 ∷ [] }
+unfolding listed
+part-work-short = refl
+
+part-lines-short : listed 4 4 10 part-cells part-words 576 (replicate 11 9) ≡ record { outcome = refused 14 0; outputs = replicate 11 9 ∷ [] }
+unfolding listed
+part-lines-short = refl
+
+-- a part without its words
+words-missing : listed 4 4 0 part-cells [] 480 [] ≡ record { outcome = refused 15 2; outputs = [] ∷ [] }
+unfolding listed
+words-missing = refl
+
+-- an empty part of length 1 ends at S + 1, though it has no line; a top's own length is free
+empty-part-past : listed 4 4 4294967295 (1 ∷ 0 ∷ 0 ∷ 1 ∷ 2 ∷ 1 ∷ 0 ∷ 2 ∷ 0 ∷ 0 ∷ 1 ∷ 0 ∷ 0 ∷ 0 ∷ []) [] 288 [] ≡ record { outcome = refused 15 2; outputs = [] ∷ [] }
+unfolding listed
+empty-part-past = refl
+
+empty-part-fits : listed 4 4 4294967294 (1 ∷ 0 ∷ 0 ∷ 1 ∷ 2 ∷ 1 ∷ 0 ∷ 2 ∷ 0 ∷ 0 ∷ 1 ∷ 0 ∷ 0 ∷ 0 ∷ []) [] 288 [] ≡ record { outcome = accepted (0 ∷ []); outputs = [] ∷ [] }
+unfolding listed
+empty-part-fits = refl
+
+top-free : listed 4 4 4294967295 (1 ∷ 0 ∷ 0 ∷ 1 ∷ 0 ∷ 0 ∷ 0 ∷ []) [] 192 [] ≡ record { outcome = accepted (0 ∷ []); outputs = [] ∷ [] }
+unfolding listed
+top-free = refl
+
+-- a part of length 6 whose one record ends at 2: its end is counted by its own length
+abbrev sooner-cells : List ℕ
+sooner-cells = 1 ∷ 0 ∷ 0 ∷ 6 ∷ 2 ∷ 1 ∷ 0 ∷ 2 ∷ 0 ∷ 0 ∷ 6 ∷ 0 ∷ 4 ∷ 0 ∷ []
+
+part-end-past : listed 4 4 4294967290 sooner-cells (1 ∷ 0 ∷ 2 ∷ 4 ∷ []) 384 (replicate 4 9) ≡ record { outcome = refused 15 2; outputs = replicate 4 9 ∷ [] }
+unfolding listed
+part-end-past = refl
+
+part-end-fits : listed 4 4 4294967289 sooner-cells (1 ∷ 0 ∷ 2 ∷ 4 ∷ []) 384 (replicate 4 9) ≡ record {
+  outcome = accepted (1 ∷ []);
+  outputs = (0 ∷ 1 ∷ 4294967289 ∷ 4294967291 ∷ []) ∷ [];
+}
+unfolding listed
+part-end-fits = refl

@@ -47,7 +47,7 @@ apart-due m x after within base ts c ds h e a = go (eqb x 0) refl ts e
     go false e (tree t s l kids rest) q = (omega arith, a)
     go false e (part s l us rest) q = (omega arith, a)
 
-module _ (T : ℕ) (types : T ≤ 65536) (parts : Bool) (ws : List ℕ) (n S hi : ℕ) (fits : S + hi ≤ 4294967295) where
+module _ (T : ℕ) (types : T ≤ 65536) (ws : List ℕ) (n S hi : ℕ) (fits : S + hi ≤ 4294967295) where
   -- the end that siblings reach at most, counted from 0
   unfoldable pub upper : Option ℕ → ℕ → ℕ
   upper none b = hi
@@ -96,11 +96,11 @@ module _ (T : ℕ) (types : T ≤ 65536) (parts : Bool) (ws : List ℕ) (n S hi 
         go none = refl
         go (some i) = refl
 
-    kinds-kept : kind-broken parts cell-of-tree ≡ false
+    kinds-kept : kind-broken cell-of-tree ≡ false
     unfolding kind-broken kind
     kinds-kept = go t
       where
-        go : (t : Option ℕ) → not (eqb (kind t) 1 || (eqb (kind t) 3 || (eqb (kind t) 2 && parts))) ≡ false
+        go : (t : Option ℕ) → not (eqb (kind t) 1 || (eqb (kind t) 3 || eqb (kind t) 2)) ≡ false
         go none = refl
         go (some i) = refl
 
@@ -119,7 +119,7 @@ module _ (T : ℕ) (types : T ≤ 65536) (parts : Bool) (ws : List ℕ) (n S hi 
     pub tree-kept : 2 ≤ c → d .cell ≡ c → Apart (c + nodes (tree t s l kids rest)) ds → c + nodes (tree t s l kids rest) ≤ suc n → d .base ≡ S + b
         → d .after ≤ s → b + (s + l) ≤ upper (d .within) b → upper (d .within) b ≤ hi → Known T t
         → siblings kids ≡ chain c (unless-none kids (suc c)) (chains (suc c) ks)
-        → Keeps T parts ws n c w d ds cell-of-tree ks
+        → Keeps T ws n c w d ds cell-of-tree ks
     unfolding nodes count-broken part-broken stray-broken
     tree-kept two here apart room base order inside most known count = record {
       top = top-kept c cell-of-tree two;
@@ -156,13 +156,13 @@ module _ (T : ℕ) (types : T ≤ 65536) (parts : Bool) (ws : List ℕ) (n S hi 
         go false e = rw (eq-eqb (w + length us) (length ws) (h e))
 
     pub part-cell-kept : 2 ≤ c → d .cell ≡ c → Apart (c + nodes (part s l us rest)) ds → c + nodes (part s l us rest) ≤ suc n → d .base ≡ S + b
-        → d .after ≤ s → b + (s + l) ≤ upper (d .within) b → upper (d .within) b ≤ hi → parts ≡ true
+        → d .after ≤ s → b + (s + l) ≤ upper (d .within) b → upper (d .within) b ≤ hi
         → drop w ws ≡ us ++ drop (w + length us) ws → w + length us ≤ length ws → Parts T (b + s) l us → (any-part ks ≡ false → w + length us ≡ length ws)
-        → Keeps T parts ws n c w d ds cell-of-part ks
+        → Keeps T ws n c w d ds cell-of-part ks
     unfolding nodes kind-broken id-broken count-broken first-child link-broken
-    part-cell-kept two here apart room base order inside most allowed q r h stray = record {
+    part-cell-kept two here apart room base order inside most q r h stray = record {
       top = top-kept c cell-of-part two;
-      kinds = rw allowed;
+      kinds = refl;
       ids = refl;
       next-link = link-kept c (suc c) rest (omega arith) (omega arith);
       first-link = refl;

@@ -27,8 +27,8 @@ short-child = 1 ∷ 0 ∷ 0 ∷ 0 ∷ 2 ∷ 1 ∷ 0 ∷ 1 ∷ 0 ∷ 0 ∷ 1 ∷ 
 
 -- "Absolute ends, counted from S in listing .., fit 32 bits": 4,294,967,295 does; the top's own is free
 pub end-limits :
-    (listed 1 1 4294967294 short-child 288 [] ≡ record { outcome = refused 14 0; outputs = [] ∷ [] })
-    × (listed 1 1 4294967295 short-child 288 [] ≡ record { outcome = refused 15 2; outputs = [] ∷ [] })
+    (listed 1 1 4294967294 short-child [] 288 [] ≡ record { outcome = refused 14 0; outputs = [] ∷ [] })
+    × (listed 1 1 4294967295 short-child [] 288 [] ≡ record { outcome = refused 15 2; outputs = [] ∷ [] })
 unfolding listed
 end-limits = (refl, refl)
 
@@ -40,10 +40,12 @@ pub cell-limits :
 unfolding result-room room
 cell-limits = (refl, refl, refl, refl, refl)
 
--- "14": four words a line
-pub line-limits : (lines-room 8 8 ≡ accepted (2 ∷ [])) × (lines-room 8 7 ≡ refused 14 0)
+-- "14": four words a line, and no more lines than 32 bits can number
+pub line-limits :
+    (lines-room 8 8 ≡ accepted (2 ∷ [])) × (lines-room 8 7 ≡ refused 14 0)
+    × (lines-room 17179869180 17179869180 ≡ accepted (4294967295 ∷ [])) × (lines-room 17179869184 17179869184 ≡ refused 14 0)
 unfolding lines-room
-line-limits = (refl, refl)
+line-limits = (refl, refl, refl, refl)
 
 -- the words of work that balance's most items ask can be named by 32 bits, those of one item more cannot
 pub item-limits : (96 * most-items + 96 ≤ 4294967295) × (4294967295 < 96 * suc most-items + 96)

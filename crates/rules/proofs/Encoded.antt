@@ -12,19 +12,18 @@ use Rattle.rules.specs.Cell.{Cell, cells-of, first-child}
 use Rattle.rules.specs.Lowest.{chain, chains, any-part, named, top-broken, kind-broken, id-broken, link-broken, count-broken, place-broken, order-broken, inside-broken, end-broken, part-broken, stray-broken, next-named, first-named, words-end, lowest-from, top-named, bad-cell}
 use lib.ListN.{length}
 use Rattle.tree.specs.Trees.{Trees, nil, tree, nodes, siblings}
-use Rattle.tree.specs.Cells.{relative, absolute, packed, unless-none, kind, id-word, cells, decode, cell-width}
+use Rattle.tree.specs.Cells.{relative, absolute, packed, unless-none, kind, id-word, cells, cell-width}
 use Rattle.tree.proofs.CellLaws.{packed-relative, absolute-relative, shift-zero}
-use Rattle.tree.proofs.KeptLaws.{Kept, kept-decode}
+use Rattle.tree.proofs.KeptLaws.{Kept}
 use Rattle.rules.proofs.Keeping.{Keeps, words-of, cells-words, length-words}
-use Rattle.rules.proofs.Grown.{Only}
 use Rattle.rules.proofs.Listed.{listed, words-listed, length-listed, chain-listed, no-part}
 use Rattle.rules.proofs.CellsKept.{due, upper, link-kept}
 use Rattle.rules.proofs.Runs.{Good, runs, lowest-step}
 use Rattle.tree.specs.Well.{Parts, Sound}
 
-module _ (T : ℕ) (types : T ≤ 65536) (parts : Bool) (ws : List ℕ) (n S hi : ℕ) (fits : S + hi ≤ 4294967295) where
+module _ (T : ℕ) (types : T ≤ 65536) (ws : List ℕ) (n S hi : ℕ) (fits : S + hi ≤ 4294967295) where
   -- cell 1
-  module _ (top len : ℕ) (kids : Trees) (known : top < T) (sound : Sound T 0 hi (absolute 0 kids)) (words : ws ≡ packed kids) (only : Only parts kids) (size : n ≡ suc (nodes kids)) where
+  module _ (top len : ℕ) (kids : Trees) (known : top < T) (sound : Sound T 0 hi (absolute 0 kids)) (words : ws ≡ packed kids) (size : n ≡ suc (nodes kids)) where
     abbrev top-cell : Cell
     top-cell = record { kind = 1; id = top; position = 0; len = len; first = unless-none kids 2; count = siblings kids; next = 0 }
 
@@ -44,14 +43,14 @@ module _ (T : ℕ) (types : T ≤ 65536) (parts : Bool) (ws : List ℕ) (n S hi 
             let (x, y) = no-part 2 0 kids [] (subst (λ l. any-part l ≡ false) (sym (append-nil inside-cells)) e) in
             rw (eq-eqb (length ws) 0 (ap length words ∙ y))
 
-    top-keeps : Keeps T parts ws n 1 0 (top-named S) [] top-cell inside-cells
+    top-keeps : Keeps T ws n 1 0 (top-named S) [] top-cell inside-cells
     unfolding top-broken kind-broken id-broken link-broken first-child count-broken place-broken order-broken inside-broken end-broken part-broken top-named named
     top-keeps = record {
       top = refl;
       kinds = refl;
       ids = lt-leb T top known;
       next-link = refl;
-      first-link = link-kept T types parts ws n S hi fits 1 2 kids (omega arith) (omega arith);
+      first-link = link-kept T types ws n S hi fits 1 2 kids (omega arith) (omega arith);
       counts = rw (eq-eqb (siblings kids) (chain 1 (unless-none kids 2) (chains 2 inside-cells)) top-counted);
       place = refl;
       order = refl;
@@ -65,7 +64,7 @@ module _ (T : ℕ) (types : T ≤ 65536) (parts : Bool) (ws : List ℕ) (n S hi 
     unfolding first-named next-named first-child top-named due
     top-names = refl
 
-    good-top : Good T types parts ws n S hi fits kids 2 0 0 none 0 [] []
+    good-top : Good T types ws n S hi fits kids 2 0 0 none 0 [] []
     unfolding upper
     good-top = record {
       two = omega arith;
@@ -75,10 +74,9 @@ module _ (T : ℕ) (types : T ≤ 65536) (parts : Bool) (ws : List ℕ) (n S hi 
       most = le-refl hi;
       words = words ∙ sym (append-nil (packed kids));
       fill = omega (arith, ap length words);
-      only = only;
     }
 
-    read-all : lowest-from T parts ws n (2 + nodes kids) (0 + length (packed kids)) [] [] ≡ 0
+    read-all : lowest-from T ws n (2 + nodes kids) (0 + length (packed kids)) [] [] ≡ 0
     unfolding lowest-from
     read-all = refl
 
@@ -89,12 +87,12 @@ module _ (T : ℕ) (types : T ≤ 65536) (parts : Bool) (ws : List ℕ) (n S hi 
     unfolding words-end
     top-end = refl
 
-    lowest-none : lowest-from T parts ws n 1 0 (top-named S ∷ []) (top-cell ∷ inside-cells) ≡ 0
+    lowest-none : lowest-from T ws n 1 0 (top-named S ∷ []) (top-cell ∷ inside-cells) ≡ 0
     lowest-none =
-        lowest-step T types parts ws n S hi fits 1 0 (top-named S) [] top-cell inside-cells top-keeps
-        ∙ (ap₂ (λ x y. lowest-from T parts ws n 2 x y inside-cells) top-end top-names
-        ∙ (ap (lowest-from T parts ws n 2 0 (due (unless-none kids 2) 0 none (S + 0) [])) (sym (append-nil inside-cells))
-        ∙ (runs T types parts ws n S hi fits kids 2 0 0 none 0 [] [] good-top [] no-part-after ∙ read-all)))
+        lowest-step T types ws n S hi fits 1 0 (top-named S) [] top-cell inside-cells top-keeps
+        ∙ (ap₂ (λ x y. lowest-from T ws n 2 x y inside-cells) top-end top-names
+        ∙ (ap (lowest-from T ws n 2 0 (due (unless-none kids 2) 0 none (S + 0) [])) (sym (append-nil inside-cells))
+        ∙ (runs T types ws n S hi fits kids 2 0 0 none 0 [] [] good-top [] no-part-after ∙ read-all)))
 
 listed-top : (top len : ℕ) (kids : Trees)
     → cells 1 0 (tree (some top) 0 len kids nil) ≡ words-of (record { kind = 1; id = top; position = 0; len = len; first = unless-none kids 2; count = siblings kids; next = 0 } ∷ listed 2 0 kids)
@@ -105,30 +103,26 @@ relative-top : (top len : ℕ) (kids : Trees) → relative 0 (tree (some top) 0 
 unfolding relative
 relative-top top len kids = refl
 
-only-kids : (parts : Bool) (top len : ℕ) (kids : Trees) → Only parts (relative 0 (tree (some top) 0 len kids nil)) → Only parts (relative 0 kids)
-unfolding relative
-only-kids parts top len kids h = h .0
-
 -- no cell of a list breaks a rule
-none-lowest : (T S : ℕ) (parts : Bool) (ws : List ℕ) (k : Cell) (ks : List Cell) → lowest-from T parts ws (length (k ∷ ks)) 1 0 (top-named S ∷ []) (k ∷ ks) ≡ 0
-    → bad-cell T S parts (words-of (k ∷ ks)) ws ≡ none
+none-lowest : (T S : ℕ) (ws : List ℕ) (k : Cell) (ks : List Cell) → lowest-from T ws (length (k ∷ ks)) 1 0 (top-named S ∷ []) (k ∷ ks) ≡ 0
+    → bad-cell T S (words-of (k ∷ ks)) ws ≡ none
 unfolding bad-cell
-none-lowest T S parts ws k ks h =
+none-lowest T S ws k ks h =
     let cs = words-of (k ∷ ks) in
     let m : length cs ≡ cell-width * length (k ∷ ks) = length-words (k ∷ ks) in
     let a : eqb (length cs) 0 ≡ false = ne-eqb (length cs) 0 (λ e. omega arith) in
     let b : eqb (length cs % cell-width) 0 ≡ true = eq-eqb (length cs % cell-width) 0 (omega arith) in
-    let e : lowest-from T parts ws (length (cells-of cs)) 1 0 (top-named S ∷ []) (cells-of cs) ≡ 0 =
-    ap (λ l. lowest-from T parts ws (length l) 1 0 (top-named S ∷ []) l) (cells-words (k ∷ ks)) ∙ h in
-    answer (eqb (length cs) 0) (eqb (length cs % cell-width) 0) (lowest-from T parts ws (length (cells-of cs)) 1 0 (top-named S ∷ []) (cells-of cs)) a b e
+    let e : lowest-from T ws (length (cells-of cs)) 1 0 (top-named S ∷ []) (cells-of cs) ≡ 0 =
+    ap (λ l. lowest-from T ws (length l) 1 0 (top-named S ∷ []) l) (cells-words (k ∷ ks)) ∙ h in
+    answer (eqb (length cs) 0) (eqb (length cs % cell-width) 0) (lowest-from T ws (length (cells-of cs)) 1 0 (top-named S ∷ []) (cells-of cs)) a b e
   where
     answer : (x y : Bool) (n : ℕ) → x ≡ false → y ≡ true → n ≡ 0
         → _≡_ {A = Option ℕ} (elim (x || not y) [ true ↦ some 0 | false ↦ elim n [ zero ↦ none | suc c ↦ some (suc c) ] ]) none
     answer x y n hx hy hn = rw (hx, hy, hn)
 
--- Cells and words of a tree that keeps the rules are accepted, where its parts are allowed.
-pub kept-accepted : (T S hi : ℕ) (parts : Bool) (cs ws : List ℕ) → T ≤ 65536 → S + hi ≤ 4294967295 → Kept T hi cs ws → Only parts (decode ws cs) → bad-cell T S parts cs ws ≡ none
-kept-accepted T S hi parts cs ws types fits k only =
+-- Cells and words of a tree that keeps the rules are accepted.
+pub kept-accepted : (T S hi : ℕ) (cs ws : List ℕ) → T ≤ 65536 → S + hi ≤ 4294967295 → Kept T hi cs ws → bad-cell T S cs ws ≡ none
+kept-accepted T S hi cs ws types fits k =
     let top = k .top in
     let len = k .length in
     let inner = relative 0 (k .kids) in
@@ -136,10 +130,9 @@ kept-accepted T S hi parts cs ws types fits k only =
     absolute-relative T (Parts T) 0 0 0 hi (k .kids) (omega arith) (subst (Sound T 0 hi) (sym (shift-zero (k .kids))) (k .sound)) in
     let sound : Sound T 0 hi (absolute 0 inner) = subst (Sound T 0 hi) (sym back) (k .sound) in
     let words : ws ≡ packed inner = k .words-are ∙ sym (packed-relative 0 (k .kids)) in
-    let allowed : Only parts inner = only-kids parts top len (k .kids) (subst (Only parts) (kept-decode T hi cs ws k) only) in
     let size : length (record { kind = 1; id = top; position = 0; len = len; first = unless-none inner 2; count = siblings inner; next = 0 } ∷ listed 2 0 inner) ≡ suc (nodes inner) =
     ap suc (length-listed 2 0 inner) in
     let all =
-    lowest-none T types parts ws (length (top-cell T types parts ws (suc (nodes inner)) S hi fits top len inner (k .known) sound words allowed refl ∷ listed 2 0 inner)) S hi fits top len inner (k .known) sound words allowed size in
-    subst (λ l. bad-cell T S parts l ws ≡ none) (sym (k .cells-are ∙ (ap (cells 1 0) (relative-top top len (k .kids)) ∙ listed-top top len inner)))
-    (none-lowest T S parts ws _ (listed 2 0 inner) all)
+    lowest-none T types ws (length (top-cell T types ws (suc (nodes inner)) S hi fits top len inner (k .known) sound words refl ∷ listed 2 0 inner)) S hi fits top len inner (k .known) sound words size in
+    subst (λ l. bad-cell T S l ws ≡ none) (sym (k .cells-are ∙ (ap (cells 1 0) (relative-top top len (k .kids)) ∙ listed-top top len inner)))
+    (none-lowest T S ws _ (listed 2 0 inner) all)

@@ -1,7 +1,7 @@
 -- The trees that the named cells begin, cell by cell: a tree's cell before its children and its later siblings, a part's
 -- cell before its later siblings. Assumes nothing.
 use mathlib.Core.Path.{_≡_, refl, sym, ap, ap₂, subst, _∙_}
-use mathlib.Core.Bool.{Bool, true, false, _&&_, _||_, not}
+use mathlib.Core.Bool.{Bool, true, false, _||_, not}
 use mathlib.Core.List.{List, [], _∷_, _++_, append-assoc}
 use mathlib.Core.Option.{Option, none, some}
 use Prim.Native.Nat.{ℕ, suc, _+_, _-_, _≤_, _<_}
@@ -18,13 +18,7 @@ use Rattle.tree.specs.Cells.{absolute, packed, unless-none, kind, id-word, cell
 use Rattle.rules.proofs.Keeping.{chain-leads, chain-ends, child-tree}
 use Rattle.tree.specs.Well.{Known, Parts, Sound}
 
--- Are the parts that there are allowed?
-abbrev pub Only : Bool → Trees → Type 0
-Only parts nil = Unit {0}
-Only parts (tree t s l kids rest) = Only parts kids × Only parts rest
-Only parts (part s l us rest) = (parts ≡ true) × Only parts rest
-
-module _ (T : ℕ) (parts : Bool) (ws : List ℕ) (n : ℕ) where
+module _ (T : ℕ) (ws : List ℕ) (n : ℕ) where
   -- absolute ends of a cell that d names
   pub upto : Named → ℕ
   upto d = elim (d .within) [ none ↦ 4294967295 | some l ↦ d .base + l ]
@@ -51,7 +45,6 @@ module _ (T : ℕ) (parts : Bool) (ws : List ℕ) (n : ℕ) where
     pub later : List ℕ
     pub cells-are : cs ≡ cells c w trees ++ later
     pub words-are : drop w ws ≡ packed trees ++ drop (w + length (packed trees)) ws
-    pub only : Only parts trees
     pub rest : Rest (c + nodes trees) (w + length (packed trees)) later (drop (nodes trees) lens)
 
   -- the named cells begin trees that fill the cells from cell c on and the words from w on
@@ -71,7 +64,6 @@ module _ (T : ℕ) (parts : Bool) (ws : List ℕ) (n : ℕ) where
     later = cs;
     cells-are = refl;
     words-are = rw add-zero;
-    only = tt;
     rest = rw (add-zero, add-zero) r;
   }
 
@@ -112,11 +104,11 @@ module _ (T : ℕ) (parts : Bool) (ws : List ℕ) (n : ℕ) where
     pub id-is : k .id ≡ id-word type
     pub known : Known T type
 
-  pub typed : (k : Cell) → kind-broken parts k ≡ false → id-broken T k ≡ false → is-part k ≡ false → Typed k
+  pub typed : (k : Cell) → kind-broken k ≡ false → id-broken T k ≡ false → is-part k ≡ false → Typed k
   unfolding kind-broken id-broken kind id-word
-  typed k a b p = go (eqb (k .kind) 1) refl (rw p at (not-false (eqb (k .kind) 1 || (eqb (k .kind) 3 || (is-part k && parts))) a)) b
+  typed k a b p = go (eqb (k .kind) 1) refl (rw p at (not-false (eqb (k .kind) 1 || (eqb (k .kind) 3 || is-part k)) a)) b
     where
-      go : (x : Bool) → eqb (k .kind) 1 ≡ x → x || (eqb (k .kind) 3 || (false && parts)) ≡ true → elim x [ true ↦ leb T (k .id) | false ↦ not (eqb (k .id) 0) ] ≡ false → Typed k
+      go : (x : Bool) → eqb (k .kind) 1 ≡ x → x || (eqb (k .kind) 3 || false) ≡ true → elim x [ true ↦ leb T (k .id) | false ↦ not (eqb (k .id) 0) ] ≡ false → Typed k
       go true e u v = record { type = some (k .id); kind-is = eqb-true (k .kind) 1 e; id-is = refl; known = leb-false T (k .id) v }
       go false e u v = record { type = none; kind-is = eqb-true (k .kind) 3 (three (eqb (k .kind) 3) u); id-is = eqb-true (k .id) 0 (not-false _ v); known = tt }
         where
@@ -178,18 +170,17 @@ module _ (T : ℕ) (parts : Bool) (ws : List ℕ) (n : ℕ) where
             F .words-are
             ∙ (ap (λ r. packed kids ++ r) (N .words-are ∙ ap (λ y. packed more ++ drop y ws) (sym wide))
             ∙ sym (append-assoc (packed kids) (packed more) (drop (w + length (packed kids ++ packed more)) ws)));
-        only = (F .only, N .only);
         rest = rw (long, wide) (subst (λ l. Laid ds (suc c + nodes kids + nodes more) (w′ + length (packed more)) (N .later) l) (drop-drop (nodes more) (nodes kids) later) (N .rest));
       }
 
   -- a part's cell before its later siblings
-  pub grown-part : (c w : ℕ) (d : Named) (ds : List Named) (k : Cell) (cs later us : List ℕ) → 0 < c → k .kind ≡ 2 → k .id ≡ 0 → parts ≡ true → d .cell ≡ c → d .after ≤ k .position
+  pub grown-part : (c w : ℕ) (d : Named) (ds : List Named) (k : Cell) (cs later us : List ℕ) → 0 < c → k .kind ≡ 2 → k .id ≡ 0 → d .cell ≡ c → d .after ≤ k .position
       → k .first ≡ w → k .count ≡ length us → drop w ws ≡ us ++ drop (w + length us) ws → Parts T (d .base + k .position) (k .len) us
       → Grown (suc c) (w + length us) (d .base) (d .base + (k .position + k .len)) (upto d) (k .next) cs later (Laid ds)
       → Grown c w (d .base) (d .base + d .after) (upto d) (d .cell)
       (k .kind ∷ k .id ∷ k .position ∷ k .len ∷ k .first ∷ k .count ∷ k .next ∷ cs) (suc (chain c (k .next) later) ∷ later) (Laid ds)
   unfolding unless-none siblings absolute cells packed nodes
-  grown-part c w d ds k cs later us pos kd id allowed here order fst cnt words ok N =
+  grown-part c w d ds k cs later us pos kd id here order fst cnt words ok N =
       let more = N .trees in
       let end : d .base + (k .position + k .len) ≡ d .base + k .position + k .len = omega arith in
       let after : siblings more ≡ chain c (k .next) later =
@@ -207,6 +198,5 @@ module _ (T : ℕ) (parts : Bool) (ws : List ℕ) (n : ℕ) where
             words
             ∙ (ap (λ r. us ++ r) (N .words-are ∙ ap (λ y. packed more ++ drop y ws) (sym wide))
             ∙ sym (append-assoc us (packed more) (drop (w + length (us ++ packed more)) ws)));
-        only = (allowed, N .only);
         rest = rw (long, wide) (N .rest);
       }

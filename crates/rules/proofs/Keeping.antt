@@ -74,11 +74,11 @@ pub count-tree : (c : ℕ) (k : Cell) (later : List ℕ) → is-part k ≡ false
 unfolding count-broken
 count-tree c k later p h = eqb-true (k .count) (chain c (k .first) later) (not-false (eqb (k .count) (chain c (k .first) later)) (rw p at h))
 
-module _ (T : ℕ) (parts : Bool) (ws : List ℕ) (n : ℕ) where
+module _ (T : ℕ) (ws : List ℕ) (n : ℕ) where
   -- no rule is broken
   pub record Keeps (c w : ℕ) (d : Named) (ds : List Named) (k : Cell) (ks : List Cell) : Type 0 where
     pub top : top-broken c k ≡ false
-    pub kinds : kind-broken parts k ≡ false
+    pub kinds : kind-broken k ≡ false
     pub ids : id-broken T k ≡ false
     pub next-link : link-broken n c (k .next) ≡ false
     pub first-link : link-broken n c (first-child k) ≡ false
@@ -90,11 +90,11 @@ module _ (T : ℕ) (parts : Bool) (ws : List ℕ) (n : ℕ) where
     pub words : part-broken T ws w k ≡ false
     pub stray : stray-broken ws c k ks ≡ false
 
-  pub keeps : (c w : ℕ) (d : Named) (ds : List Named) (k : Cell) (ks : List Cell) → broken T parts ws n c w d ds k ks ≡ false → Keeps c w d ds k ks
+  pub keeps : (c w : ℕ) (d : Named) (ds : List Named) (k : Cell) (ks : List Cell) → broken T ws n c w d ds k ks ≡ false → Keeps c w d ds k ks
   unfolding broken any-of
   keeps c w d ds k ks h =
       let (a₀, h₀) = neither (top-broken c k) _ h in
-      let (a₁, h₁) = neither (kind-broken parts k) _ h₀ in
+      let (a₁, h₁) = neither (kind-broken k) _ h₀ in
       let (a₂, h₂) = neither (id-broken T k) _ h₁ in
       let (a₃, h₃) = neither (link-broken n c (k .next)) _ h₂ in
       let (a₄, h₄) = neither (link-broken n c (first-child k)) _ h₃ in
@@ -107,15 +107,15 @@ module _ (T : ℕ) (parts : Bool) (ws : List ℕ) (n : ℕ) where
       let (b₁, g₁) = neither (stray-broken ws c k ks) _ g₀ in
       record { top = a₀; kinds = a₁; ids = a₂; next-link = a₃; first-link = a₄; counts = a₅; place = a₆; order = a₇; inside = a₈; ends = a₉; words = b₀; stray = b₁ }
 
-  pub none-broken : (c w : ℕ) (d : Named) (ds : List Named) (k : Cell) (ks : List Cell) → Keeps c w d ds k ks → broken T parts ws n c w d ds k ks ≡ false
+  pub none-broken : (c w : ℕ) (d : Named) (ds : List Named) (k : Cell) (ks : List Cell) → Keeps c w d ds k ks → broken T ws n c w d ds k ks ≡ false
   unfolding broken any-of
   none-broken c w d ds k ks h =
       rw (h .top, h .kinds, h .ids, h .next-link, h .first-link, h .counts, h .place, h .order, h .inside, h .ends, h .words, h .stray)
 
-  pub accepted-step : (c w : ℕ) (d : Named) (ds : List Named) (k : Cell) (ks : List Cell) → 0 < c → lowest-from T parts ws n c w (d ∷ ds) (k ∷ ks) ≡ 0
-      → (broken T parts ws n c w d ds k ks ≡ false) × (lowest-from T parts ws n (suc c) (words-end w k) (first-named c d k (next-named d k ds)) ks ≡ 0)
+  pub accepted-step : (c w : ℕ) (d : Named) (ds : List Named) (k : Cell) (ks : List Cell) → 0 < c → lowest-from T ws n c w (d ∷ ds) (k ∷ ks) ≡ 0
+      → (broken T ws n c w d ds k ks ≡ false) × (lowest-from T ws n (suc c) (words-end w k) (first-named c d k (next-named d k ds)) ks ≡ 0)
   unfolding lowest-from
-  accepted-step c w d ds k ks pos h = go (broken T parts ws n c w d ds k ks) _ h
+  accepted-step c w d ds k ks pos h = go (broken T ws n c w d ds k ks) _ h
     where
       go : (b : Bool) (r : ℕ) → _≡_ {A = ℕ} (elim b [ true ↦ c | false ↦ r ]) 0 → (b ≡ false) × (r ≡ 0)
       go true r h = absurd (omega arith)

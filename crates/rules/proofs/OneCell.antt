@@ -11,7 +11,7 @@ use lib.Dec.{ltb, leb, eqb}
 use lib.ListN.{length, take, drop}
 use Rattle.rules.specs.Cell.{Cell, is-part, first-child}
 use Rattle.rules.specs.PartLowest.{part-kept}
-use Rattle.rules.specs.Rules.{cell, Leads, Chain, words-before, words-at, Breaks, top-kind, top-position, top-next, no-kind, no-part-here, id-of-part, id-of-none, id-past, no-first, no-next, first-jumps, next-jumps, miscounts, unreached, on-two-chains, overlaps, sticks-out, ends-past, part-apart, part-past, part-wrong, words-left, words-alone}
+use Rattle.rules.specs.Rules.{cell, Leads, Chain, words-before, words-at, Breaks, top-kind, top-position, top-next, no-kind, id-of-part, id-of-none, id-past, no-first, no-next, first-jumps, next-jumps, miscounts, unreached, on-two-chains, overlaps, sticks-out, ends-past, part-apart, part-past, part-wrong, words-left, words-alone}
 use Rattle.rules.specs.Lowest.{chain, chains, any-part, Named, top-broken, kind-broken, id-broken, link-broken, count-broken, place-broken, order-broken, inside-broken, end-broken, part-broken, stray-broken, any-of, broken}
 use Rattle.rules.proofs.Tests.{both, neither, either, untrue}
 use Rattle.rules.proofs.PartRanges.{part-rules, rules-part}
@@ -19,13 +19,13 @@ use Rattle.rules.proofs.Keeping.{Keeps, child-tree, leads, count-tree}
 use Rattle.rules.proofs.Links.{rest, chain-one, chain-counted, no-parts, some-part}
 use Rattle.rules.proofs.Sited.{Sited}
 
-module _ (ks : List Cell) (T S : ℕ) (parts : Bool) (ws : List ℕ) where
-  module _ (c w : ℕ) (d : Named) (ds : List Named) (pos : 1 ≤ c) (most : c ≤ length ks) (words : w ≡ words-before ks c) (at : Sited ks T S parts ws c d ds) where
+module _ (ks : List Cell) (T S : ℕ) (ws : List ℕ) where
+  module _ (c w : ℕ) (d : Named) (ds : List Named) (pos : 1 ≤ c) (most : c ≤ length ks) (words : w ≡ words-before ks c) (at : Sited ks T S ws c d ds) where
     abbrev k : Cell
     k = cell ks c
 
     abbrev Bad : Type 0
-    Bad = Breaks ks T S parts ws c
+    Bad = Breaks ks T S ws c
 
     unlike : (x y : ℕ) → eqb x y ≡ false → x ≡ y → ⊥
     unlike x y h = eqb-false x y h
@@ -39,16 +39,12 @@ module _ (ks : List Cell) (T S : ℕ) (parts : Bool) (ws : List ℕ) where
         either (not (eqb (k .kind) 1)) _ Bad b (λ e. top-kind one (unlike (k .kind) 1 (untrue _ e)))
         (λ b. either (not (eqb (k .position) 0)) _ Bad b (λ e. top-position one (unlike (k .position) 0 (untrue _ e))) (λ e. top-next one (unlike (k .next) 0 (untrue _ e))))
 
-    kind-bad : kind-broken parts k ≡ true → Bad
+    kind-bad : kind-broken k ≡ true → Bad
     unfolding kind-broken
     kind-bad h =
         let (a, b) = neither (eqb (k .kind) 1) _ (untrue _ h) in
-        let (x, y) = neither (eqb (k .kind) 3) _ b in
-        go a x y (ℕ-discrete (k .kind) 2)
-      where
-        go : eqb (k .kind) 1 ≡ false → eqb (k .kind) 3 ≡ false → is-part k && parts ≡ false → Dec (k .kind ≡ 2) → Bad
-        go a x y (yes e) = no-part-here e (rw (eq-eqb (k .kind) 2 e) at y)
-        go a x y (no e) = no-kind (unlike (k .kind) 1 a) e (unlike (k .kind) 3 x)
+        let (x, y) = neither (eqb (k .kind) 3) (is-part k) b in
+        no-kind (unlike (k .kind) 1 a) (unlike (k .kind) 2 y) (unlike (k .kind) 3 x)
 
     id-bad : id-broken T k ≡ true → Bad
     unfolding id-broken
@@ -100,7 +96,7 @@ module _ (ks : List Cell) (T S : ℕ) (parts : Bool) (ws : List ℕ) where
                 next (yes s) = eqb-false (k .kind) 2 p (ap (λ y. cell ks y .kind) (sym s) ∙ e)
                 next (no s) = no-parts ks (suc c) (omega arith) a (suc v) (omega arith) e
 
-    pub broken-breaks : broken T parts ws (length ks) c w d ds k (rest ks (suc c)) ≡ true → Bad
+    pub broken-breaks : broken T ws (length ks) c w d ds k (rest ks (suc c)) ≡ true → Bad
     unfolding broken any-of
     broken-breaks h = go (place-broken c d ds) refl
       where
@@ -108,7 +104,7 @@ module _ (ks : List Cell) (T S : ℕ) (parts : Bool) (ws : List ℕ) where
         go true e = at .misplaced e
         go false e =
             either (top-broken c k) _ Bad h top-bad (λ h.
-            either (kind-broken parts k) _ Bad h kind-bad (λ h.
+            either (kind-broken k) _ Bad h kind-bad (λ h.
             either (id-broken T k) _ Bad h id-bad (λ h.
             either (link-broken (length ks) c (k .next)) _ Bad h (λ b. let (x, y) = link-bad (k .next) b in no-next x y) (λ h.
             either (link-broken (length ks) c (first-child k)) _ Bad h (λ b. let (x, y) = link-bad (first-child k) b in no-first x y) (λ h.
@@ -121,7 +117,7 @@ module _ (ks : List Cell) (T S : ℕ) (parts : Bool) (ws : List ℕ) where
             either (stray-broken ws c k (rest ks (suc c))) false Bad h stray-bad (λ h. absurd (true≢false (sym h))))))))))))))
 
     -- and back
-    module _ (ok : Keeps T parts ws (length ks) c w d ds k (rest ks (suc c))) where
+    module _ (ok : Keeps T ws (length ks) c w d ds k (rest ks (suc c))) where
       pub top-is : c ≡ 1 → (k .kind ≡ 1) × (k .position ≡ 0) × (k .next ≡ 0)
       unfolding top-broken
       top-is e =
@@ -130,12 +126,10 @@ module _ (ks : List Cell) (T S : ℕ) (parts : Bool) (ws : List ℕ) where
           let (x, y) = neither (not (eqb (k .position) 0)) (not (eqb (k .next) 0)) b in
           (eqb-true (k .kind) 1 (not-false _ a), eqb-true (k .position) 0 (not-false _ x), eqb-true (k .next) 0 (not-false _ y))
 
-      kinds-are : (k .kind ≡ 1 → ⊥) → (k .kind ≡ 3 → ⊥) → (k .kind ≡ 2) × (parts ≡ true)
+      kinds-are : (k .kind ≡ 1 → ⊥) → (k .kind ≡ 3 → ⊥) → k .kind ≡ 2
       unfolding kind-broken
       kinds-are a b =
-          let h : is-part k && parts ≡ true = rw (ne-eqb (k .kind) 1 a, ne-eqb (k .kind) 3 b) at (not-false (eqb (k .kind) 1 || (eqb (k .kind) 3 || (is-part k && parts))) (ok .kinds)) in
-          let (x, y) = both (is-part k) parts h in
-          (eqb-true (k .kind) 2 x, y)
+          eqb-true (k .kind) 2 (rw (ne-eqb (k .kind) 1 a, ne-eqb (k .kind) 3 b) at (not-false (eqb (k .kind) 1 || (eqb (k .kind) 3 || is-part k)) (ok .kinds)))
 
       id-zero : (k .kind ≡ 1 → ⊥) → k .id ≡ 0
       unfolding id-broken
@@ -151,7 +145,7 @@ module _ (ks : List Cell) (T S : ℕ) (parts : Bool) (ws : List ℕ) where
           let e = count-tree c k (chains (suc c) (rest ks (suc c))) p (ok .counts) in
           e ∙ chain-one ks c (k .first) _ m (chain-counted ks c (k .first)) (subst (λ x. Chain ks c x m) (child-tree k p) h)
 
-      part-is : k .kind ≡ 2 → (k .first ≡ words-before ks c) × (k .first + k .count ≤ length ws) × (part-kept T (k .len) (words-at ks T S parts ws k) ≡ true)
+      part-is : k .kind ≡ 2 → (k .first ≡ words-before ks c) × (k .first + k .count ≤ length ws) × (part-kept T (k .len) (words-at ks T S ws k) ≡ true)
       unfolding part-broken
       part-is e =
           let h : not (eqb (k .first) w) || (ltb (length ws) (k .first + k .count) || not (part-kept T (k .len) (take (k .count) (drop (k .first) ws)))) ≡ false = rw (eq-eqb (k .kind) 2 e) at (ok .words) in
@@ -177,8 +171,7 @@ module _ (ks : List Cell) (T S : ℕ) (parts : Bool) (ws : List ℕ) where
       keeps-clean (top-kind e n) = n (top-is e .0)
       keeps-clean (top-position e n) = n (top-is e .1)
       keeps-clean (top-next e n) = n (top-is e .2)
-      keeps-clean (no-kind a b e) = b (kinds-are a e .0)
-      keeps-clean (no-part-here e p) = true≢false (sym (kinds-are (λ s. omega arith) (λ s. omega arith) .1) ∙ p)
+      keeps-clean (no-kind a b e) = b (kinds-are a e)
       keeps-clean (id-of-part e n) = n (id-zero (λ s. omega arith))
       keeps-clean (id-of-none e n) = n (id-zero (λ s. omega arith))
       keeps-clean (id-past e l) = omega (arith, id-known e)
@@ -194,6 +187,6 @@ module _ (ks : List Cell) (T S : ℕ) (parts : Bool) (ws : List ℕ) where
       keeps-clean (ends-past a ne s l) = omega (arith, at .near (ok .place) (ok .ends) a ne s)
       keeps-clean (part-apart e n) = n (part-is e .0)
       keeps-clean (part-past e l) = omega (arith, part-is e .1)
-      keeps-clean (part-wrong e h) = h (part-rules (words-at ks T S parts ws k) T (k .len) (part-is e .2))
+      keeps-clean (part-wrong e h) = h (part-rules (words-at ks T S ws k) T (k .len) (part-is e .2))
       keeps-clean (words-left e a n) = n ((stray-is (none-after a)) .0 e)
       keeps-clean (words-alone e a n) = n ((stray-is (none-after (λ b l. a b))) .1 (a c) e)

@@ -18,13 +18,13 @@ use Rattle.rules.proofs.Tests.{neither}
 use Rattle.rules.proofs.Links.{on-later, below-later, starts-below}
 use Rattle.rules.proofs.Opens.{Open, links, ahead, In, room-of, By-first, By-next, Fact, Opens, Complete, ahead-next, in-under, in-first, in-next, Older, find}
 
-module _ (ks : List Cell) (T S : ℕ) (parts : Bool) (ws : List ℕ) where
+module _ (ks : List Cell) (T S : ℕ) (ws : List ℕ) where
   -- what the named cell d and the older ones ds say of the cell c
   pub record Sited (c : ℕ) (d : Named) (ds : List Named) : Type 0 where
-    pub misplaced : place-broken c d ds ≡ true → Breaks ks T S parts ws c
-    pub early : place-broken c d ds ≡ false → order-broken d (cell ks c) ≡ true → Breaks ks T S parts ws c
-    pub outside : place-broken c d ds ≡ false → inside-broken d (cell ks c) ≡ true → Breaks ks T S parts ws c
-    pub far : place-broken c d ds ≡ false → end-broken c d (cell ks c) ≡ true → Breaks ks T S parts ws c
+    pub misplaced : place-broken c d ds ≡ true → Breaks ks T S ws c
+    pub early : place-broken c d ds ≡ false → order-broken d (cell ks c) ≡ true → Breaks ks T S ws c
+    pub outside : place-broken c d ds ≡ false → inside-broken d (cell ks c) ≡ true → Breaks ks T S ws c
+    pub far : place-broken c d ds ≡ false → end-broken c d (cell ks c) ≡ true → Breaks ks T S ws c
     pub by-first : place-broken c d ds ≡ false → (p : ℕ) → first-child (cell ks p) ≡ c → Leads ks p c → c ≡ suc p
     pub by-next : place-broken c d ds ≡ false → (b : ℕ) → cell ks b .next ≡ c → Leads ks b c → Last ks b (c - 1)
     pub reached : place-broken c d ds ≡ false → (c ≡ 1 → ⊥) → Below ks 1 c
@@ -37,7 +37,7 @@ module _ (ks : List Cell) (T S : ℕ) (parts : Bool) (ws : List ℕ) where
         → (a : ℕ) → (c ≡ 1 → ⊥) → Starts ks S c a → a + cell ks c .len ≤ 4294967295
 
   -- Cells before c break no rule.
-  module _ (c : ℕ) (clean : (b : ℕ) → 1 ≤ b → b < c → Breaks ks T S parts ws b → ⊥) where
+  module _ (c : ℕ) (clean : (b : ℕ) → 1 ≤ b → b < c → Breaks ks T S ws b → ⊥) where
     -- so they have one parent and one absolute start
     parent-one : (y p q : ℕ) → y < c → On ks p y → On ks q y → p ≡ q
     parent-one y p q l a b = go (ℕ-discrete p q)
@@ -82,14 +82,14 @@ module _ (ks : List Cell) (T S : ℕ) (parts : Bool) (ws : List ℕ) where
           go (inl g) = absurd (true≢false (sym (k .is-next) ∙ g .kind-is))
           go (inr g) = g .names ∙ k .here
 
-      misplaced-at : place-broken c d (links os) ≡ true → Breaks ks T S parts ws c
+      misplaced-at : place-broken c d (links os) ≡ true → Breaks ks T S ws c
       unfolding place-broken named
       misplaced-at b = go (eqb (d .cell) c) refl (named c (links os)) refl b
         where
           found : named c (links os) ≡ true → Older ks S c (o .owner) (o .link .cell)
           found m = find ks S c (ahead o) (o .owner) (o .link .cell) os (h .older) (h .under) m
 
-          go : (x : Bool) → eqb (d .cell) c ≡ x → (y : Bool) → named c (links os) ≡ y → not x || y ≡ true → Breaks ks T S parts ws c
+          go : (x : Bool) → eqb (d .cell) c ≡ x → (y : Bool) → named c (links os) ≡ y → not x || y ≡ true → Breaks ks T S ws c
           go true e true m z =
               let k = found m in
               on-two-chains (o .owner) (k .open-link .owner) (subst (On ks (o .owner)) (eqb-true (d .cell) c e) (f .on)) (subst (On ks (k .open-link .owner)) (k .here) (k .fact .on))
@@ -197,14 +197,14 @@ module _ (ks : List Cell) (T S : ℕ) (parts : Bool) (ws : List ℕ) where
         reached-at : Below ks 1 c
         reached-at = starts-below ks S c (d .base + cell ks c .position) (child-starts (o .owner) c (d .base) (f .starts) on-here) (λ e. omega arith)
 
-        early-at : order-broken d (cell ks c) ≡ true → Breaks ks T S parts ws c
+        early-at : order-broken d (cell ks c) ≡ true → Breaks ks T S ws c
         unfolding order-broken
         early-at b = go (f .how)
           where
             low : cell ks c .position < d .after
             low = ltb-true (cell ks c .position) (d .after) b
 
-            go : By-first ks S c o ⊎ By-next ks S c o → Breaks ks T S parts ws c
+            go : By-first ks S c o ⊎ By-next ks S c o → Breaks ks T S ws c
             go (inl g) = absurd (omega (arith, low, g .after-is))
             go (inr g) = overlaps (o .source) (g .names ∙ here) (f .early, most) (omega (arith, low, g .after-is))
 
@@ -215,11 +215,11 @@ module _ (ks : List Cell) (T S : ℕ) (parts : Bool) (ws : List ℕ) where
             let (k, s) = only-next b e l in
             subst (λ y. cell ks y .position + cell ks y .len ≤ cell ks c .position) s (omega (arith, how-next k .after-is, ltb-false (cell ks c .position) (d .after) q))
 
-        outside-at : inside-broken d (cell ks c) ≡ true → Breaks ks T S parts ws c
+        outside-at : inside-broken d (cell ks c) ≡ true → Breaks ks T S ws c
         unfolding inside-broken room-of
         outside-at b = go (ℕ-discrete (o .owner) 1) (d .within) refl b
           where
-            go : Dec (o .owner ≡ 1) → (w : Option ℕ) → d .within ≡ w → elim w [ none ↦ false | some l ↦ ltb l (cell ks c .position + cell ks c .len) ] ≡ true → Breaks ks T S parts ws c
+            go : Dec (o .owner ≡ 1) → (w : Option ℕ) → d .within ≡ w → elim w [ none ↦ false | some l ↦ ltb l (cell ks c .position + cell ks c .len) ] ≡ true → Breaks ks T S ws c
             go e none w z = absurd (true≢false (sym z))
             go (yes e) (some l) w z = absurd (some-none (sym w ∙ (f .room ∙ rw (eq-eqb (o .owner) 1 e, room-of))))
               where
@@ -240,7 +240,7 @@ module _ (ks : List Cell) (T S : ℕ) (parts : Bool) (ws : List ℕ) where
             let z : ltb (cell ks (o .owner) .len) (cell ks c .position + cell ks c .len) ≡ false = rw r at b in
             subst (λ y. cell ks c .position + cell ks c .len ≤ cell ks y .len) (sym e) (ltb-false (cell ks (o .owner) .len) (cell ks c .position + cell ks c .len) z)
 
-        far-at : end-broken c d (cell ks c) ≡ true → Breaks ks T S parts ws c
+        far-at : end-broken c d (cell ks c) ≡ true → Breaks ks T S ws c
         unfolding end-broken
         far-at b =
             let z : ltb 4294967295 (d .base + (cell ks c .position + cell ks c .len)) ≡ true = rw (ne-eqb c 1 (λ e. omega arith)) at b in
