@@ -1,11 +1,11 @@
 -- The tree calls on document 01's first example, by computation: what is lent decides, and one word less is refused. Assumes
 -- nothing.
-use mathlib.Core.Path.{_≡_, refl}
+use mathlib.Core.Path.{_≡_, refl, ap, _∙_}
 use mathlib.Core.Bool.{false}
 use mathlib.Core.List.{List, [], _∷_}
 use Prim.Native.Nat.{ℕ}
 use lib.ListN.{replicate}
-use Rattle.words.specs.Outcome.{accepted, refused, Result}
+use Rattle.words.specs.Outcome.{accepted, refused, number-of, Result}
 use Rattle.part.specs.Part.{part-check, faults-from, fault, own-fault, crosses}
 use Rattle.records.specs.Forest.{line, depth-below}
 use Rattle.tree.specs.Trees.{_⊕_, nodes, kids-of, siblings}
@@ -18,6 +18,7 @@ use Rattle.rules.specs.Cell.{cells-of, first-child}
 use Rattle.rules.specs.PartLowest.{still, earliest, bound, ranges, part-kept}
 use Rattle.rules.specs.Lowest.{chain, chains, any-part, named, top-broken, kind-broken, id-broken, link-broken, count-broken, place-broken, order-broken, inside-broken, end-broken, part-broken, stray-broken, any-of, broken, next-named, first-named, words-end, lowest-from, top-named, bad-cell}
 use Rattle.rules.specs.Calls.{items, unless-bad, result-room, lines-room, handed-in, materialise-call, balance-room, balance-call, list-call}
+use Rattle.rules.proofs.ListedInTurn.{Taken, cells-out}
 
 -- the calls with all that it takes to compute them
 unfoldable pub materialised : (T : ℕ) (cs ws : List ℕ) (work : ℕ) (out : List ℕ) → Result
@@ -110,6 +111,18 @@ part-work-short = refl
 part-lines-short : listed 4 4 10 part-cells part-words 576 (replicate 11 9) ≡ record { outcome = refused 14 0; outputs = replicate 11 9 ∷ [] }
 unfolding listed
 part-lines-short = refl
+
+-- so the conditions of the law that both ways list the same are met: here by P, with three slices of just the work that 11 asks
+both-ways :
+    Taken (list-call 4 4 10 part-cells part-words 576 (replicate 13 9)) × Taken (materialise-call 4 part-cells part-words 576 (replicate 29 9))
+    × Taken (list-call 4 4 10 (cells-out (materialise-call 4 part-cells part-words 576 (replicate 29 9))) [] 480 (replicate 13 9))
+unfolding materialised listed
+both-ways = (
+  ap (λ (r : Result). number-of (r .outcome)) part-listed,
+  ap (λ (r : Result). number-of (r .outcome)) part-unpacked,
+  ap (λ (r : Result). number-of ((list-call 4 4 10 (cells-out r) [] 480 (replicate 13 9)) .outcome)) part-unpacked
+      ∙ ap (λ (r : Result). number-of (r .outcome)) three-lines,
+)
 
 -- a part without its words
 words-missing : listed 4 4 0 part-cells [] 480 [] ≡ record { outcome = refused 15 2; outputs = [] ∷ [] }

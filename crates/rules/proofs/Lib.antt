@@ -24,6 +24,7 @@ pub mod Accepted
 -- The calls.
 pub mod CallLaws
 pub mod RunCalls
+pub mod ListedInTurn
 -- Examples by computation.
 pub mod Examples
 pub mod CallExamples
