@@ -46,22 +46,18 @@ module _ (i : ℕ) (k : Cell) where
   unfolding top-broken
   top-next h a b = rw (eq-eqb (i + 1) 1 (omega arith), eq-eqb (k .kind) 1 a, eq-eqb (k .position) 0 b)
 
-module _ (k : Cell) (parts : Bool) where
-  pub kind-one : k .kind ≡ 1 → false ≡ kind-broken parts k
+module _ (k : Cell) where
+  pub kind-one : k .kind ≡ 1 → false ≡ kind-broken k
   unfolding kind-broken
   kind-one h = rw (eq-eqb (k .kind) 1 h)
 
-  pub kind-three : (k .kind ≡ 1 → ⊥) → k .kind ≡ 3 → false ≡ kind-broken parts k
+  pub kind-three : (k .kind ≡ 1 → ⊥) → k .kind ≡ 3 → false ≡ kind-broken k
   unfolding kind-broken
   kind-three h a = rw (ne-eqb (k .kind) 1 h, eq-eqb (k .kind) 3 a)
 
-  pub kind-two : (k .kind ≡ 1 → ⊥) → (k .kind ≡ 3 → ⊥) → k .kind ≡ 2 → not parts ≡ kind-broken parts k
+  pub kind-other : (k .kind ≡ 1 → ⊥) → (k .kind ≡ 3 → ⊥) → not (eqb (k .kind) 2) ≡ kind-broken k
   unfolding kind-broken
-  kind-two h a b = rw (ne-eqb (k .kind) 1 h, ne-eqb (k .kind) 3 a, eq-eqb (k .kind) 2 b)
-
-  pub kind-none : (k .kind ≡ 1 → ⊥) → (k .kind ≡ 3 → ⊥) → (k .kind ≡ 2 → ⊥) → true ≡ kind-broken parts k
-  unfolding kind-broken
-  kind-none h a b = rw (ne-eqb (k .kind) 1 h, ne-eqb (k .kind) 3 a, ne-eqb (k .kind) 2 b)
+  kind-other h a = rw (ne-eqb (k .kind) 1 h, ne-eqb (k .kind) 3 a)
 
 module _ (T : ℕ) (k : Cell) where
   pub id-one : k .kind ≡ 1 → leb T (k .id) ≡ id-broken T k
@@ -129,12 +125,12 @@ module _ (k : Cell) where
   unfolding first-child
   child-some h = sym (ap (λ b. elim b [ true ↦ 0 | false ↦ k .first ]) (ne-eqb (k .kind) 2 h))
 
-module _ (T : ℕ) (parts : Bool) (n i : ℕ) (k : Cell) where
+module _ (T n i : ℕ) (k : Cell) where
   abbrev O₁ : Bool
   O₁ = top-broken (i + 1) k
 
   abbrev O₂ : Bool
-  O₂ = kind-broken parts k
+  O₂ = kind-broken k
 
   abbrev O₃ : Bool
   O₃ = id-broken T k
@@ -145,23 +141,23 @@ module _ (T : ℕ) (parts : Bool) (n i : ℕ) (k : Cell) where
   abbrev O₅ : Bool
   O₅ = link-broken n (i + 1) (first-child k)
 
-  pub own-1 : O₁ ≡ true → true ≡ own-test T parts n i k
+  pub own-1 : O₁ ≡ true → true ≡ own-test T n i k
   unfolding own-test
   own-1 a = rw a
 
-  pub own-2 : O₁ ≡ false → O₂ ≡ true → true ≡ own-test T parts n i k
+  pub own-2 : O₁ ≡ false → O₂ ≡ true → true ≡ own-test T n i k
   unfolding own-test
   own-2 a b = or-next O₁ _ a (or-hit O₂ _ b)
 
-  pub own-3 : O₁ ≡ false → O₂ ≡ false → O₃ ≡ true → true ≡ own-test T parts n i k
+  pub own-3 : O₁ ≡ false → O₂ ≡ false → O₃ ≡ true → true ≡ own-test T n i k
   unfolding own-test
   own-3 a b c = or-next O₁ _ a (or-next O₂ _ b (or-hit O₃ _ c))
 
-  pub own-4 : O₁ ≡ false → O₂ ≡ false → O₃ ≡ false → O₄ ≡ true → true ≡ own-test T parts n i k
+  pub own-4 : O₁ ≡ false → O₂ ≡ false → O₃ ≡ false → O₄ ≡ true → true ≡ own-test T n i k
   unfolding own-test
   own-4 a b c d = or-next O₁ _ a (or-next O₂ _ b (or-next O₃ _ c (or-hit O₄ _ d)))
 
-  pub own-5 : O₁ ≡ false → O₂ ≡ false → O₃ ≡ false → O₄ ≡ false → O₅ ≡ own-test T parts n i k
+  pub own-5 : O₁ ≡ false → O₂ ≡ false → O₃ ≡ false → O₄ ≡ false → O₅ ≡ own-test T n i k
   unfolding own-test
   own-5 a b c d = or-pass O₁ _ O₅ a (or-pass O₂ _ O₅ b (or-pass O₃ _ O₅ c (or-pass O₄ O₅ O₅ d refl)))
 
@@ -191,9 +187,9 @@ module _ (T : ℕ) (ws : List ℕ) (w : ℕ) (k : Cell) where
   unfolding part-broken
   part-rules h a b = rw (eq-eqb (k .kind) 2 h, eq-eqb (k .first) w a, le-ltb (length ws) (k .first + k .count) b)
 
-module _ (T : ℕ) (parts : Bool) (ws : List ℕ) (n last i w : ℕ) (held : List ℕ) (after within base : ℕ) (k : Cell) where
+module _ (T : ℕ) (ws : List ℕ) (n last i w : ℕ) (held : List ℕ) (after within base : ℕ) (k : Cell) where
   abbrev C₁ : Bool
-  C₁ = own-test T parts n i k
+  C₁ = own-test T n i k
 
   abbrev C₂ : Bool
   C₂ = count-test held n i k
@@ -204,23 +200,23 @@ module _ (T : ℕ) (parts : Bool) (ws : List ℕ) (n last i w : ℕ) (held : Lis
   abbrev C₅ : Bool
   C₅ = stray-test (length ws) i last k
 
-  pub cell-1 : C₁ ≡ true → true ≡ cell-test T parts ws n last i w held after within base k
+  pub cell-1 : C₁ ≡ true → true ≡ cell-test T ws n last i w held after within base k
   unfolding cell-test
   cell-1 a = or-hit C₁ _ a
 
-  pub cell-2 : C₁ ≡ false → C₂ ≡ true → true ≡ cell-test T parts ws n last i w held after within base k
+  pub cell-2 : C₁ ≡ false → C₂ ≡ true → true ≡ cell-test T ws n last i w held after within base k
   unfolding cell-test
   cell-2 a b = or-next C₁ _ a (or-hit C₂ _ b)
 
-  pub cell-3 : C₁ ≡ false → C₂ ≡ false → C₃ ≡ true → true ≡ cell-test T parts ws n last i w held after within base k
+  pub cell-3 : C₁ ≡ false → C₂ ≡ false → C₃ ≡ true → true ≡ cell-test T ws n last i w held after within base k
   unfolding cell-test
   cell-3 a b c = or-next C₁ _ a (or-next C₂ _ b (or-hit C₃ _ c))
 
-  pub cell-4 : C₁ ≡ false → C₂ ≡ false → C₃ ≡ false → part-broken T ws w k ≡ true → true ≡ cell-test T parts ws n last i w held after within base k
+  pub cell-4 : C₁ ≡ false → C₂ ≡ false → C₃ ≡ false → part-broken T ws w k ≡ true → true ≡ cell-test T ws n last i w held after within base k
   unfolding cell-test
   cell-4 a b c d = or-next C₁ _ a (or-next C₂ _ b (or-next C₃ _ c (or-hit (part-broken T ws w k) _ d)))
 
-  pub cell-5 : C₁ ≡ false → C₂ ≡ false → C₃ ≡ false → part-broken T ws w k ≡ false → C₅ ≡ cell-test T parts ws n last i w held after within base k
+  pub cell-5 : C₁ ≡ false → C₂ ≡ false → C₃ ≡ false → part-broken T ws w k ≡ false → C₅ ≡ cell-test T ws n last i w held after within base k
   unfolding cell-test
   cell-5 a b c d = or-pass C₁ _ C₅ a (or-pass C₂ _ C₅ b (or-pass C₃ _ C₅ c (or-pass (part-broken T ws w k) C₅ C₅ d refl)))
 

@@ -24,10 +24,10 @@ use Rattle.cells.proofs.Links.{held-front}
 or-false : (a b : Bool) → a ≡ false → b ≡ false → a || b ≡ false
 or-false a b x y = rw (x, y)
 
-module _ (T : ℕ) (parts : Bool) (ws : List ℕ) (n : ℕ) where
+module _ (T : ℕ) (ws : List ℕ) (n : ℕ) where
   -- the tests are the rules
-  own-is : (i : ℕ) (k : Cell) → own-test T parts n i k
-      ≡ top-broken (suc i) k || (kind-broken parts k || (id-broken T k || (link-broken n (suc i) (k .next) || link-broken n (suc i) (first-child k))))
+  own-is : (i : ℕ) (k : Cell) → own-test T n i k
+      ≡ top-broken (suc i) k || (kind-broken k || (id-broken T k || (link-broken n (suc i) (k .next) || link-broken n (suc i) (first-child k))))
   unfolding own-test
   own-is i k = rw (add-one i)
 
@@ -112,17 +112,17 @@ module _ (T : ℕ) (parts : Bool) (ws : List ℕ) (n : ℕ) where
     later = drop (suc i) (cells-of cs)
 
     abbrev test : Bool
-    test = cell-test T parts ws n last i w held (d .after) (width (d .within)) (d .base) k₀
+    test = cell-test T ws n last i w held (d .after) (width (d .within)) (d .base) k₀
 
-    test-keeps : test ≡ false → place-broken (suc i) d ds ≡ false → Keeps T parts ws n (suc i) w d ds k₀ later
+    test-keeps : test ≡ false → place-broken (suc i) d ds ≡ false → Keeps T ws n (suc i) w d ds k₀ later
     unfolding cell-test
     test-keeps h p =
-        let (a, h₁) = neither (own-test T parts n i k₀) _ h in
+        let (a, h₁) = neither (own-test T n i k₀) _ h in
         let (b, h₂) = neither (count-test held n i k₀) _ h₁ in
         let (c, h₃) = neither (range-test i (k₀ .position) (k₀ .len) (d .after) (width (d .within)) (d .base)) _ h₂ in
         let (e, f) = neither (part-broken T ws w k₀) _ h₃ in
         let (a₀, g₀) = neither (top-broken (suc i) k₀) _ (sym (own-is i k₀) ∙ a) in
-        let (a₁, g₁) = neither (kind-broken parts k₀) _ g₀ in
+        let (a₁, g₁) = neither (kind-broken k₀) _ g₀ in
         let (a₂, g₂) = neither (id-broken T k₀) _ g₁ in
         let (a₃, a₄) = neither (link-broken n (suc i) (k₀ .next)) _ g₂ in
         let (r₀, r₁, r₂) = range-keeps i d k₀ c in
@@ -141,10 +141,10 @@ module _ (T : ℕ) (parts : Bool) (ws : List ℕ) (n : ℕ) where
           stray = sym (stray-is cs i last final) ∙ f;
         }
 
-    keeps-test : k₀ .len < 4294967296 → Keeps T parts ws n (suc i) w d ds k₀ later → test ≡ false
+    keeps-test : k₀ .len < 4294967296 → Keeps T ws n (suc i) w d ds k₀ later → test ≡ false
     unfolding cell-test
     keeps-test small s =
-        or-false (own-test T parts n i k₀) _ (own-is i k₀ ∙ or-false (top-broken (suc i) k₀) _ (s .top) (or-false (kind-broken parts k₀) _ (s .kinds) (or-false (id-broken T k₀) _ (s .ids) (or-false (link-broken n (suc i) (k₀ .next)) _ (s .next-link) (s .first-link)))))
+        or-false (own-test T n i k₀) _ (own-is i k₀ ∙ or-false (top-broken (suc i) k₀) _ (s .top) (or-false (kind-broken k₀) _ (s .kinds) (or-false (id-broken T k₀) _ (s .ids) (or-false (link-broken n (suc i) (k₀ .next)) _ (s .next-link) (s .first-link)))))
         (or-false (count-test held n i k₀) _ (count-is cs held i q below lengths ∙ s .counts)
         (or-false (range-test i (k₀ .position) (k₀ .len) (d .after) (width (d .within)) (d .base)) _ (keeps-range i d k₀ small (s .top) (s .order) (s .inside) (s .ends))
         (or-false (part-broken T ws w k₀) _ (s .words) (stray-is cs i last final ∙ s .stray))))
@@ -186,9 +186,9 @@ clash-names m [] h = h
 clash-names m (d ∷ ds) h = ⊎-elim (λ a. inr (a .1)) (λ b. inr (clash-names m ds b)) h
 
 -- the loop's state
-module _ (T : ℕ) (parts : Bool) (ws : List ℕ) (n S : ℕ) (cs : List ℕ) where
+module _ (T : ℕ) (ws : List ℕ) (n S : ℕ) (cs : List ℕ) where
   abbrev pub whole : ℕ
-  whole = lowest-from T parts ws n 1 0 (top-named S ∷ []) (cells-of cs)
+  whole = lowest-from T ws n 1 0 (top-named S ∷ []) (cells-of cs)
 
   pub record Walk (held : List ℕ) (i w top limit : ℕ) : Type 0 where
     pub ds : List Named
@@ -196,7 +196,7 @@ module _ (T : ℕ) (parts : Bool) (ws : List ℕ) (n S : ℕ) (cs : List ℕ) wh
     pub few : top ≤ suc i
     pub far : i < limit
     pub lengths : Lengths cs n held
-    pub same : whole ≡ lowest-from T parts ws n (suc i) w ds (drop i (cells-of cs))
+    pub same : whole ≡ lowest-from T ws n (suc i) w ds (drop i (cells-of cs))
 
   due-top : due 1 0 none S [] ≡ top-named S ∷ []
   unfolding due top-named
@@ -216,35 +216,35 @@ module _ (T : ℕ) (parts : Bool) (ws : List ℕ) (n S : ℕ) (cs : List ℕ) wh
         same = refl;
       }
 
-  hit : (c w : ℕ) (d : Named) (ds : List Named) (k : Cell) (ks : List Cell) → broken T parts ws n c w d ds k ks ≡ true → lowest-from T parts ws n c w (d ∷ ds) (k ∷ ks) ≡ c
+  hit : (c w : ℕ) (d : Named) (ds : List Named) (k : Cell) (ks : List Cell) → broken T ws n c w d ds k ks ≡ true → lowest-from T ws n c w (d ∷ ds) (k ∷ ks) ≡ c
   unfolding lowest-from
-  hit c w d ds k ks h = ap (λ b. elim b as (λ x. ℕ) [ true ↦ c | false ↦ lowest-from T parts ws n (suc c) (words-end w k) (first-named c d k (next-named d k ds)) ks ]) h
+  hit c w d ds k ks h = ap (λ b. elim b as (λ x. ℕ) [ true ↦ c | false ↦ lowest-from T ws n (suc c) (words-end w k) (first-named c d k (next-named d k ds)) ks ]) h
 
-  pass : (c w : ℕ) (d : Named) (ds : List Named) (k : Cell) (ks : List Cell) → broken T parts ws n c w d ds k ks ≡ false
-      → lowest-from T parts ws n c w (d ∷ ds) (k ∷ ks) ≡ lowest-from T parts ws n (suc c) (words-end w k) (first-named c d k (next-named d k ds)) ks
+  pass : (c w : ℕ) (d : Named) (ds : List Named) (k : Cell) (ks : List Cell) → broken T ws n c w d ds k ks ≡ false
+      → lowest-from T ws n c w (d ∷ ds) (k ∷ ks) ≡ lowest-from T ws n (suc c) (words-end w k) (first-named c d k (next-named d k ds)) ks
   unfolding lowest-from
-  pass c w d ds k ks h = ap (λ b. elim b as (λ x. ℕ) [ true ↦ c | false ↦ lowest-from T parts ws n (suc c) (words-end w k) (first-named c d k (next-named d k ds)) ks ]) h
+  pass c w d ds k ks h = ap (λ b. elim b as (λ x. ℕ) [ true ↦ c | false ↦ lowest-from T ws n (suc c) (words-end w k) (first-named c d k (next-named d k ds)) ks ]) h
 
-  alone : (c w : ℕ) (k : Cell) (ks : List Cell) → lowest-from T parts ws n c w [] (k ∷ ks) ≡ c
+  alone : (c w : ℕ) (k : Cell) (ks : List Cell) → lowest-from T ws n c w [] (k ∷ ks) ≡ c
   unfolding lowest-from
   alone c w k ks = refl
 
-  none-left : (c w : ℕ) (ds : List Named) → lowest-from T parts ws n c w ds [] ≡ 0
+  none-left : (c w : ℕ) (ds : List Named) → lowest-from T ws n c w ds [] ≡ 0
   unfolding lowest-from
   none-left c w [] = refl
   none-left c w (d ∷ ds) = refl
 
   -- broken wherever it is not kept
-  not-kept : (c w : ℕ) (d : Named) (ds : List Named) (k : Cell) (ks : List Cell) → (Keeps T parts ws n c w d ds k ks → ⊥) → broken T parts ws n c w d ds k ks ≡ true
-  not-kept c w d ds k ks h = go (broken T parts ws n c w d ds k ks) refl
+  not-kept : (c w : ℕ) (d : Named) (ds : List Named) (k : Cell) (ks : List Cell) → (Keeps T ws n c w d ds k ks → ⊥) → broken T ws n c w d ds k ks ≡ true
+  not-kept c w d ds k ks h = go (broken T ws n c w d ds k ks) refl
     where
-      go : (b : Bool) → broken T parts ws n c w d ds k ks ≡ b → b ≡ true
+      go : (b : Bool) → broken T ws n c w d ds k ks ≡ b → b ≡ true
       go true e = refl
-      go false e = absurd (h (keeps T parts ws n c w d ds k ks e))
+      go false e = absurd (h (keeps T ws n c w d ds k ks e))
 
   module _ (q : n * cell-width ≡ length cs) (held : List ℕ) (i w top limit : ℕ) (s : Walk held i w top limit) where
     pub walk-end : n ≤ i → 0 ≡ whole
-    walk-end h = sym (s .same ∙ (ap (lowest-from T parts ws n (suc i) w (s .ds)) (drop-of-length-le (cells-of cs) {i = i} (omega (arith, length-cells cs))) ∙ none-left (suc i) w (s .ds)))
+    walk-end h = sym (s .same ∙ (ap (lowest-from T ws n (suc i) w (s .ds)) (drop-of-length-le (cells-of cs) {i = i} (omega (arith, length-cells cs))) ∙ none-left (suc i) w (s .ds)))
 
     module _ (below : i < n) where
       abbrev k₁ : Cell
@@ -256,24 +256,24 @@ module _ (T : ℕ) (parts : Bool) (ws : List ℕ) (n S : ℕ) (cs : List ℕ) wh
       here : drop i (cells-of cs) ≡ k₁ ∷ ks₁
       here = cells-drop i cs (omega arith)
 
-      answer : (v : ℕ) → lowest-from T parts ws n (suc i) w (s .ds) (k₁ ∷ ks₁) ≡ v → whole ≡ v
-      answer v h = s .same ∙ (ap (lowest-from T parts ws n (suc i) w (s .ds)) here ∙ h)
+      answer : (v : ℕ) → lowest-from T ws n (suc i) w (s .ds) (k₁ ∷ ks₁) ≡ v → whole ≡ v
+      answer v h = s .same ∙ (ap (lowest-from T ws n (suc i) w (s .ds)) here ∙ h)
 
       pub walk-none : top ≡ 0 → i + 1 ≡ whole
       walk-none e = add-one i ∙ sym (answer (suc i) (go (s .ds) (s .stack .size)))
         where
-          go : (ds : List Named) → top ≡ length ds → lowest-from T parts ws n (suc i) w ds (k₁ ∷ ks₁) ≡ suc i
+          go : (ds : List Named) → top ≡ length ds → lowest-from T ws n (suc i) w ds (k₁ ∷ ks₁) ≡ suc i
           go [] z = alone (suc i) w k₁ ks₁
           go (d ∷ ds) z = absurd (omega arith)
 
-      misplaced : (d : Named) (ds : List Named) → place-broken (suc i) d ds ≡ true → lowest-from T parts ws n (suc i) w (d ∷ ds) (k₁ ∷ ks₁) ≡ suc i
+      misplaced : (d : Named) (ds : List Named) → place-broken (suc i) d ds ≡ true → lowest-from T ws n (suc i) w (d ∷ ds) (k₁ ∷ ks₁) ≡ suc i
       misplaced d ds p = hit (suc i) w d ds k₁ ks₁ (not-kept (suc i) w d ds k₁ ks₁ (λ h. true≢false (sym p ∙ h .place)))
 
       pub walk-limit : i + 1 ≡ limit → i + 1 ≡ whole
       unfolding place-broken
       walk-limit e = add-one i ∙ sym (answer (suc i) (go (s .ds) (s .stack .clash (omega arith))))
         where
-          go : (ds : List Named) → Clash limit ds → lowest-from T parts ws n (suc i) w ds (k₁ ∷ ks₁) ≡ suc i
+          go : (ds : List Named) → Clash limit ds → lowest-from T ws n (suc i) w ds (k₁ ∷ ks₁) ≡ suc i
           go [] c = absurd c
           go (d ∷ ds) c =
               let at : limit ≡ suc i = omega arith in
@@ -323,8 +323,8 @@ module _ (T : ℕ) (parts : Bool) (ws : List ℕ) (n S : ℕ) (cs : List ℕ) wh
                   held-older = h .older;
                 }
 
-        at-latest : (v : ℕ) → lowest-from T parts ws n (suc i) w (latest .d ∷ latest .older) (k₁ ∷ ks₁) ≡ v → whole ≡ v
-        at-latest v h = answer v (ap (λ y. lowest-from T parts ws n (suc i) w y (k₁ ∷ ks₁)) (latest .all) ∙ h)
+        at-latest : (v : ℕ) → lowest-from T ws n (suc i) w (latest .d ∷ latest .older) (k₁ ∷ ks₁) ≡ v → whole ≡ v
+        at-latest v h = answer v (ap (λ y. lowest-from T ws n (suc i) w y (k₁ ∷ ks₁)) (latest .all) ∙ h)
 
         pub walk-place : (getD held p₁ 0 ≡ i + 1 → ⊥) → i + 1 ≡ whole
         unfolding place-broken
@@ -335,20 +335,20 @@ module _ (T : ℕ) (parts : Bool) (ws : List ℕ) (n S : ℕ) (cs : List ℕ) wh
 
         module _ (last : ℕ) (final : Last cs n last) (at-cell : getD held p₁ 0 ≡ i + 1) (not-limit : i + 1 ≡ limit → ⊥) (small : k₁ .len < 4294967296) where
           abbrev test₁ : Bool
-          test₁ = cell-test T parts ws n last i w held (getD held (p₁ + 1) 0) (getD held (p₁ + 2) 0) (getD held (p₁ + 3) 0) k₁
+          test₁ = cell-test T ws n last i w held (getD held (p₁ + 1) 0) (getD held (p₁ + 2) 0) (getD held (p₁ + 3) 0) k₁
 
-          same-test : test₁ ≡ cell-test T parts ws n last i w held (latest .d .after) (width (latest .d .within)) (latest .d .base) k₁
+          same-test : test₁ ≡ cell-test T ws n last i w held (latest .d .after) (width (latest .d .within)) (latest .d .base) k₁
           same-test =
               let l = latest in
-              ap (λ y. cell-test T parts ws n last i w held y (getD held (p₁ + 2) 0) (getD held (p₁ + 3) 0) k₁) (l .after-is)
-              ∙ ap₂ (λ x y. cell-test T parts ws n last i w held (l .d .after) x y k₁) (l .within-is) (l .base-is)
+              ap (λ y. cell-test T ws n last i w held y (getD held (p₁ + 2) 0) (getD held (p₁ + 3) 0) k₁) (l .after-is)
+              ∙ ap₂ (λ x y. cell-test T ws n last i w held (l .d .after) x y k₁) (l .within-is) (l .base-is)
 
           pub walk-test : test₁ ≡ true → i + 1 ≡ whole
           walk-test h =
               let l = latest in
               add-one i
               ∙ sym (at-latest (suc i) (hit (suc i) w (l .d) (l .older) k₁ ks₁ (not-kept (suc i) w (l .d) (l .older) k₁ ks₁
-              (λ k. true≢false (sym h ∙ (same-test ∙ keeps-test T parts ws n cs held i w last (l .d) (l .older) q below (s .lengths) final small k))))))
+              (λ k. true≢false (sym h ∙ (same-test ∙ keeps-test T ws n cs held i w last (l .d) (l .older) q below (s .lengths) final small k))))))
 
           here-cell : latest .d .cell ≡ suc i
           here-cell = sym (latest .cell-is) ∙ (at-cell ∙ add-one i)
@@ -361,8 +361,8 @@ module _ (T : ℕ) (parts : Bool) (ws : List ℕ) (n S : ℕ) (cs : List ℕ) wh
           placed = or-false (not (eqb (latest .d .cell) (suc i))) (named (suc i) (latest .older)) (ap not (eq-eqb (latest .d .cell) (suc i) here-cell)) (over-named (suc i) (latest .older) over)
 
           module _ (clear : test₁ ≡ false) where
-            kept : Keeps T parts ws n (suc i) w (latest .d) (latest .older) k₁ ks₁
-            kept = test-keeps T parts ws n cs held i w last (latest .d) (latest .older) q below (s .lengths) final (sym same-test ∙ clear) placed
+            kept : Keeps T ws n (suc i) w (latest .d) (latest .older) k₁ ks₁
+            kept = test-keeps T ws n cs held i w last (latest .d) (latest .older) q below (s .lengths) final (sym same-test ∙ clear) placed
 
             pub record Fitting : Type 0 where
               pub end : k₁ .position + k₁ .len ≤ 4294967295
@@ -476,9 +476,9 @@ module _ (T : ℕ) (parts : Bool) (ws : List ℕ) (n S : ℕ) (cs : List ℕ) wh
                     far = omega (arith, put₃ .above (suc i) ds₂ mid over-mid under);
                     lengths = record { at = λ j h. put₃ .front .at j h ∙ (put .front .at j h ∙ (kept-front .at j (omega arith) ∙ s .lengths .at j h)) };
                     same =
-                        at-latest (lowest-from T parts ws n (suc (suc i)) (words-end w k₁) ds₃ ks₁) (pass (suc i) w (l .d) (l .older) k₁ ks₁ (none-broken T parts ws n (suc i) w (l .d) (l .older) k₁ ks₁ kept))
-                        ∙ (ap (λ y. lowest-from T parts ws n (suc (suc i)) y ds₃ ks₁) (sym ew)
-                        ∙ ap₂ (λ a b. lowest-from T parts ws n (suc a) w′ ds₃ (drop b (cells-of cs))) (sym (add-one i)) (sym (add-one i)));
+                        at-latest (lowest-from T ws n (suc (suc i)) (words-end w k₁) ds₃ ks₁) (pass (suc i) w (l .d) (l .older) k₁ ks₁ (none-broken T ws n (suc i) w (l .d) (l .older) k₁ ks₁ kept))
+                        ∙ (ap (λ y. lowest-from T ws n (suc (suc i)) y ds₃ ks₁) (sym ew)
+                        ∙ ap₂ (λ a b. lowest-from T ws n (suc a) w′ ds₃ (drop b (cells-of cs))) (sym (add-one i)) (sym (add-one i)));
                   }
 
             pub walk-pushed : (held₁ held₃ : List ℕ) (m t₃ limit₃ w′ : ℕ) → n + (top - 1) * 4 ≤ m → n ≤ m → Front m held held₁
@@ -489,9 +489,9 @@ module _ (T : ℕ) (parts : Bool) (ws : List ℕ) (n S : ℕ) (cs : List ℕ) wh
                 (first-child k₁) (cond (eqb i 0) 4294967295 (k₁ .len)) (getD held (p₁ + 3) 0 + k₁ .position) w′ refl refl refl ew (p .first-put)
 
 -- the whole answer
-module _ (T S : ℕ) (parts : Bool) (cs ws : List ℕ) where
+module _ (T S : ℕ) (cs ws : List ℕ) where
   abbrev lowest : ℕ
-  lowest = lowest-from T parts ws (length (cells-of cs)) 1 0 (top-named S ∷ []) (cells-of cs)
+  lowest = lowest-from T ws (length (cells-of cs)) 1 0 (top-named S ∷ []) (cells-of cs)
 
   abbrev Answer : (x y : Bool) (r : ℕ) → Option ℕ
   Answer x y r = elim (x || not y) [ true ↦ some 0 | false ↦ elim r [ zero ↦ none | suc c ↦ some (suc c) ] ]
@@ -499,23 +499,23 @@ module _ (T S : ℕ) (parts : Bool) (cs ws : List ℕ) where
   answers : (x y : Bool) (r : ℕ) (a b : Bool) (v : ℕ) → x ≡ a → y ≡ b → r ≡ v → Answer x y r ≡ Answer a b v
   answers x y r a b v e f g = rw (e, f, g)
 
-  pub bad-empty : length cs ≡ 0 → some 0 ≡ bad-cell T S parts cs ws
+  pub bad-empty : length cs ≡ 0 → some 0 ≡ bad-cell T S cs ws
   unfolding bad-cell
   bad-empty h = sym (answers (eqb (length cs) 0) (eqb (length cs % cell-width) 0) lowest true (eqb (length cs % cell-width) 0) lowest (eq-eqb (length cs) 0 h) refl refl)
 
-  pub bad-ragged : (length cs ≡ 0 → ⊥) → (length cs % cell-width ≡ 0 → ⊥) → some 0 ≡ bad-cell T S parts cs ws
+  pub bad-ragged : (length cs ≡ 0 → ⊥) → (length cs % cell-width ≡ 0 → ⊥) → some 0 ≡ bad-cell T S cs ws
   unfolding bad-cell
   bad-ragged a h = sym (answers (eqb (length cs) 0) (eqb (length cs % cell-width) 0) lowest false false lowest (ne-eqb (length cs) 0 a) (ne-eqb (length cs % cell-width) 0 h) refl)
 
-  module _ (n r : ℕ) (a : length cs ≡ 0 → ⊥) (b : length cs % cell-width ≡ 0) (size : n ≡ length cs / cell-width) (is : r ≡ lowest-from T parts ws n 1 0 (top-named S ∷ []) (cells-of cs)) where
-    number : lowest-from T parts ws (length (cells-of cs)) 1 0 (top-named S ∷ []) (cells-of cs) ≡ r
-    number = ap (λ m. lowest-from T parts ws m 1 0 (top-named S ∷ []) (cells-of cs)) (length-cells cs ∙ sym size) ∙ sym is
+  module _ (n r : ℕ) (a : length cs ≡ 0 → ⊥) (b : length cs % cell-width ≡ 0) (size : n ≡ length cs / cell-width) (is : r ≡ lowest-from T ws n 1 0 (top-named S ∷ []) (cells-of cs)) where
+    number : lowest-from T ws (length (cells-of cs)) 1 0 (top-named S ∷ []) (cells-of cs) ≡ r
+    number = ap (λ m. lowest-from T ws m 1 0 (top-named S ∷ []) (cells-of cs)) (length-cells cs ∙ sym size) ∙ sym is
 
-    pub bad-none : r ≡ 0 → none ≡ bad-cell T S parts cs ws
+    pub bad-none : r ≡ 0 → none ≡ bad-cell T S cs ws
     unfolding bad-cell
     bad-none z = sym (answers (eqb (length cs) 0) (eqb (length cs % cell-width) 0) lowest false true 0 (ne-eqb (length cs) 0 a) (eq-eqb (length cs % cell-width) 0 b) (number ∙ z))
 
-    pub bad-some : (r ≡ 0 → ⊥) → some r ≡ bad-cell T S parts cs ws
+    pub bad-some : (r ≡ 0 → ⊥) → some r ≡ bad-cell T S cs ws
     unfolding bad-cell
     bad-some z = positive r z ∙ sym (answers (eqb (length cs) 0) (eqb (length cs % cell-width) 0) lowest false true r (ne-eqb (length cs) 0 a) (eq-eqb (length cs % cell-width) 0 b) number)
       where

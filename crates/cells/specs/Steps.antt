@@ -45,10 +45,10 @@ pub record Last (cs : List ℕ) (n last : ℕ) : Type 0 where
   pub is : (c : ℕ) → any-part (drop c (cells-of cs)) ≡ ltb c last
 
 -- the rules that cell i + 1 breaks by itself
-unfoldable pub own-test : (T : ℕ) (parts : Bool) (n i : ℕ) (k : Cell) → Bool
-own-test T parts n i k =
+unfoldable pub own-test : (T n i : ℕ) (k : Cell) → Bool
+own-test T n i k =
     top-broken (i + 1) k
-    || (kind-broken parts k
+    || (kind-broken k
     || (id-broken T k || (link-broken n (i + 1) (k .next) || link-broken n (i + 1) (first-child k))))
 
 -- a chain that has not count cells
@@ -66,9 +66,9 @@ stray-test size i last k =
     cond (ltb (i + 1) last) false (cond (eqb (k .kind) 2) (not (eqb (k .first + k .count) size)) (eqb i 0 && not (eqb size 0)))
 
 -- all rules but that of the cell's place
-unfoldable pub cell-test : (T : ℕ) (parts : Bool) (ws : List ℕ) (n last i w : ℕ) (held : List ℕ) (after within base : ℕ) (k : Cell) → Bool
-cell-test T parts ws n last i w held after within base k =
-    own-test T parts n i k
+unfoldable pub cell-test : (T : ℕ) (ws : List ℕ) (n last i w : ℕ) (held : List ℕ) (after within base : ℕ) (k : Cell) → Bool
+cell-test T ws n last i w held after within base k =
+    own-test T n i k
     || (count-test held n i k
     || (range-test i (k .position) (k .len) after within base
     || (part-broken T ws w k || stray-test (length ws) i last k)))

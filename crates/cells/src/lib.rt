@@ -57,11 +57,9 @@ struct Names {
     limit: usize,
 }
 
-// What is the same for every cell: the type count, whether parts are allowed, the number of cells, and the last part's cell,
-// 0 for none.
+// What is the same for every cell: the type count, the number of cells, and the last part's cell, 0 for none.
 struct Setting {
     types: u32,
-    parts: bool,
     n: usize,
     last: usize,
 }
@@ -256,9 +254,9 @@ fn top_broken(i: usize, k: CellWords) -> bool
     k.next != 0
 }
 
-// A kind that there is not, or a part where none is allowed.
-fn kind_broken(k: CellWords, parts: bool) -> bool
-    ensures { λ r. ⌜ r ≡ kind-broken parts (cell-of k) ⌝ }
+// A kind that there is not.
+fn kind_broken(k: CellWords) -> bool
+    ensures { λ r. ⌜ r ≡ kind-broken (cell-of k) ⌝ }
 {
     if k.kind == 1 {
         return false;
@@ -266,10 +264,7 @@ fn kind_broken(k: CellWords, parts: bool) -> bool
     if k.kind == 3 {
         return false;
     }
-    if k.kind == 2 {
-        return !parts;
-    }
-    true
+    k.kind != 2
 }
 
 // "Ids are below T", 0 for kinds 2 and 3.
@@ -309,12 +304,12 @@ fn first_child(k: CellWords) -> u32
 // The rules that cell i + 1 breaks by itself: top, kind, id, links.
 fn own_broken(k: CellWords, g: Setting, i: usize) -> bool
     requires { ⌜ i < g .n ⌝ }
-    ensures { λ r. ⌜ r ≡ own-test (g .types) (g .parts) (g .n) i (cell-of k) ⌝ }
+    ensures { λ r. ⌜ r ≡ own-test (g .types) (g .n) i (cell-of k) ⌝ }
 {
     if top_broken(i, k) {
         return true;
     }
-    if kind_broken(k, g.parts) {
+    if kind_broken(k) {
         return true;
     }
     if id_broken(g.types, k) {
@@ -415,7 +410,7 @@ fn cell_broken(
     requires { ⌜ (i < g .n) × (g .n ≤ at) ⌝ }
     requires { ⌜ at + length (now words) ≤ length (now work) ⌝ }
     requires { ⌜ g .types ≤ 65536 ⌝ }
-    ensures { λ r. ⌜ r ≡ cell-test (g .types) (g .parts) (now (words .entry)) (g .n) (g .last) i w (now (work .entry)) (d .after) (d .within) (d .base) (cell-of k) ⌝ }
+    ensures { λ r. ⌜ r ≡ cell-test (g .types) (now (words .entry)) (g .n) (g .last) i w (now (work .entry)) (d .after) (d .within) (d .base) (cell-of k) ⌝ }
     ensures { λ _. ⌜ Front at (now (work .entry)) (now (work .exit)) ⌝ }
 {
     if own_broken(k, g, i) {
@@ -543,7 +538,7 @@ fn read_link(work: &[u32], n: usize, top: usize) -> Link
 // open links, four words each; the part check uses what follows.
 fn check_cells(cells: &[u32], words: &[u16], g: Setting, start: u32, work: &mut [u32]) -> usize
     requires { ⌜ Given (now cells) (g .n) (length (now words)) (g .types) (g .last) (now work) ⌝ }
-    ensures { λ r. ⌜ r ≡ lowest-from (g .types) (g .parts) (now (words .entry)) (g .n) 1 0 (top-named start ∷ []) (cells-of (now (cells .entry))) ⌝ }
+    ensures { λ r. ⌜ r ≡ lowest-from (g .types) (now (words .entry)) (g .n) 1 0 (top-named start ∷ []) (cells-of (now (cells .entry))) ⌝ }
 {
     let n = g.n;
     let at = n * 5 + 8;
@@ -591,18 +586,17 @@ pub fn too_little_work(cells: &[u32], words: &[u16], work: &[u32]) -> bool
 }
 
 // The tree check, after refusals 1 and 11: the lowest cell that breaks a cell rule; 0 where the slice is empty or no multiple of
-// 7. Absolute ends are counted from `start`; without `parts` a cell of kind 2 is refused.
+// 7. Absolute ends are counted from `start`.
 pub fn tree_check(
     cells: &[u32],
     words: &[u16],
     types: u32,
     start: u32,
-    parts: bool,
     work: &mut [u32],
 ) -> words::Found
     requires { ⌜ types ≤ 65536 ⌝ }
     requires { ⌜ 96 * items (now cells) (now words) + 96 ≤ length (now work) ⌝ }
-    ensures { λ r. ⌜ place-found r ≡ bad-cell types start parts (now (cells .entry)) (now (words .entry)) ⌝ }
+    ensures { λ r. ⌜ place-found r ≡ bad-cell types start (now (cells .entry)) (now (words .entry)) ⌝ }
 {
     if cells.len() == 0 {
         return words::Found::At(0);
@@ -613,12 +607,7 @@ pub fn tree_check(
     let n = cells.len() / CELL_WIDTH;
     let last = last_part(cells, n);
     chain_lengths(cells, n, work);
-    let g = Setting {
-        types,
-        parts,
-        n,
-        last,
-    };
+    let g = Setting { types, n, last };
     let lowest = check_cells(cells, words, g, start, work);
     if lowest == 0 {
         return words::Found::Nothing;

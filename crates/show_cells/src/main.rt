@@ -35,12 +35,12 @@ fn four(
     out
 }
 
-fn show_tree(cells: &[u32], words: &[u16], start: u32, parts: bool, work: &mut [u32]) {
+fn show_tree(cells: &[u32], words: &[u16], start: u32, work: &mut [u32]) {
     if cells::too_little_work(cells, words, &*work) {
         io::write_all(1, b"11\n");
         return;
     }
-    let found = cells::tree_check(cells, words, 4, start, parts, work);
+    let found = cells::tree_check(cells, words, 4, start, work);
     if let Found::At(place) = found {
         io::print_decimal(1, place as u64);
         io::write_all(1, b"\n");
@@ -52,7 +52,7 @@ fn show_tree(cells: &[u32], words: &[u16], start: u32, parts: bool, work: &mut [
 // With T 4, S 0 and a work slice of 1,152 words, enough for eleven items.
 fn show(cells: &[u32], words: &[u16]) {
     let mut work = [4294967295u32; 1152];
-    show_tree(cells, words, 0, true, &mut work);
+    show_tree(cells, words, 0, &mut work);
 }
 
 // The first so many words of four cells, with no packed words.
@@ -70,18 +70,17 @@ fn show_cells(
     }
 }
 
-// P with b 1,024: as it is, in listing, at the last end that fits and past it, with a work slice one word short. P with b 1:
+// P with b 1,024: as it is, at the last end that fits and past it, with a work slice one word short. P with b 1:
 // as it is, and with the chain of cell 2 cut.
 fn examples() {
     let packed: [u32; TWO] = [1, 0, 0, 6, 2, 1, 0, 2, 0, 0, 6, 0, 12, 0];
     let words: [u16; 12] = [3, 0, 6, 12, 1, 0, 2, 8, 2, 3, 5, 12];
     show(&packed, &words);
     let mut work = [7u32; 576];
-    show_tree(&packed, &words[..0], 0, false, &mut work);
-    show_tree(&packed, &words, 4294967289, true, &mut work);
-    show_tree(&packed, &words, 4294967290, true, &mut work);
+    show_tree(&packed, &words, 4294967289, &mut work);
+    show_tree(&packed, &words, 4294967290, &mut work);
     let mut short = [0u32; 575];
-    show_tree(&packed, &words, 0, true, &mut short);
+    show_tree(&packed, &words, 0, &mut short);
     let top: [u32; CELL_WIDTH] = [1, 0, 0, 6, 2, 1, 0];
     let outer: [u32; CELL_WIDTH] = [1, 3, 0, 6, 3, 2, 0];
     let last: [u32; CELL_WIDTH] = [1, 2, 3, 2, 0, 0, 0];

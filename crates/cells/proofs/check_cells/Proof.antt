@@ -15,7 +15,7 @@ use Rattle.cells.proofs.check_cells.Statement.{statement}
 use Rattle.cells.proofs.check_cells.Tie as tie
 
 abbrev Inv-loop : tie.InvT-loop
-Inv-loop cells words g start work₀ n at s₀ w₀ i₀ work s w i = (i ≤ g .n) × (length work ≡ length work₀) × Walk (g .types) (g .parts) words (g .n) start cells work i w (s .top) (s .limit)
+Inv-loop cells words g start work₀ n at s₀ w₀ i₀ work s w i = (i ≤ g .n) × (length work ≡ length work₀) × Walk (g .types) words (g .n) start cells work i w (s .top) (s .limit)
 
 abbrev μ-loop : tie.MeasureT-loop
 μ-loop cells words g start work₀ n at s₀ w₀ i₀ work s w i = g .n - i
@@ -60,7 +60,7 @@ name-if-requires c κs = omega (arith, c .before .before .before .before .pre .r
 loop-holds : tie.Need-loop-holds Inv-loop μ-loop
 loop-holds c =
     let z = c .before .before .before .before .before .before .before in
-    (omega arith, refl, walk-start _ _ _ _ _ _ _ _ _ _ (z .pre .lengths) (c .before .before .name-if .ensures))
+    (omega arith, refl, walk-start _ _ _ _ _ _ _ _ _ (z .pre .lengths) (c .before .before .name-if .ensures))
 
 placed-requires : tie.Need-placed-requires Inv-loop μ-loop
 placed-requires c κs = omega (arith, link-room (c .before))
@@ -122,7 +122,7 @@ loop-again c =
     )
 
 returns-3 : tie.Need-returns-3 Inv-loop μ-loop
-returns-3 c = walk-end _ _ _ _ _ _ (c .before .before .before .before .before .before .before .before .before .pre .cells) _ _ _ _ _ (c .before .loop .inv .2) (c .loop-test .left)
+returns-3 c = walk-end _ _ _ _ _ (c .before .before .before .before .before .before .before .before .before .pre .cells) _ _ _ _ _ (c .before .loop .inv .2) (c .loop-test .left)
 
 pub check-cells-spec : {M : Type 1} → statement M
 check-cells-spec =

@@ -19,12 +19,12 @@ room cs ws m h = omega arith
 returns : tie.Need-returns
 returns c =
     let a = c .before .before .before .before .args in
-    bad-empty (a .types) (a .start) (a .parts) (now (a .cells)) (now (a .words)) (c .if1 .taken)
+    bad-empty (a .types) (a .start) (now (a .cells)) (now (a .words)) (c .if1 .taken)
 
 returns-2 : tie.Need-returns-2
 returns-2 c =
     let a = c .before .before .before .before .before .args in
-    bad-ragged (a .types) (a .start) (a .parts) (now (a .cells)) (now (a .words)) (c .before .if1 .left) (c .if2 .taken)
+    bad-ragged (a .types) (a .start) (now (a .cells)) (now (a .words)) (c .before .if1 .left) (c .if2 .taken)
 
 chain-lengths-requires : tie.Need-chain-lengths-requires
 chain-lengths-requires c κs =
@@ -52,7 +52,7 @@ returns-3 c =
     let i1 = c .before .before .before .before .before .before .before .before .before .before .before .if1 in
     let i2 = c .before .before .before .before .before .before .before .before .before .before .if2 in
     let r = c .before .before .before .check-cells in
-    bad-none (a .types) (a .start) (a .parts) (now (a .cells)) (now (a .words)) (length (now (a .cells)) / cell-width) (r .result) (i1 .left) (i2 .left) refl (r .ensures) (c .if3 .taken)
+    bad-none (a .types) (a .start) (now (a .cells)) (now (a .words)) (length (now (a .cells)) / cell-width) (r .result) (i1 .left) (i2 .left) refl (r .ensures) (c .if3 .taken)
 
 returns-4 : tie.Need-returns-4
 returns-4 c =
@@ -60,7 +60,7 @@ returns-4 c =
     let i1 = c .before .before .before .before .before .before .before .before .before .before .before .if1 in
     let i2 = c .before .before .before .before .before .before .before .before .before .before .if2 in
     let r = c .before .before .before .check-cells in
-    bad-some (a .types) (a .start) (a .parts) (now (a .cells)) (now (a .words)) (length (now (a .cells)) / cell-width) (r .result) (i1 .left) (i2 .left) refl (r .ensures) (c .if3 .left)
+    bad-some (a .types) (a .start) (now (a .cells)) (now (a .words)) (length (now (a .cells)) / cell-width) (r .result) (i1 .left) (i2 .left) refl (r .ensures) (c .if3 .left)
 
 pub tree-check-spec : {M : Type 1} → statement M
 tree-check-spec =
