@@ -13,7 +13,7 @@ use lib.Dec.{ltb, eqb}
 use lib.ListN.{length, getD, take, drop}
 use Rattle.part.proofs.Faults.{part-sound}
 use Rattle.tree.specs.Trees.{nodes}
-use Rattle.tree.specs.Cells.{decode, decode-from, packed, absolute, cells, tree-cells, cell-width, cell-kind, cell-length}
+use Rattle.tree.specs.Cells.{decode, decode-from, absolute, cells, tree-cells, cell-width, cell-kind, cell-length}
 use Rattle.tree.specs.Calls.{materialise-cells}
 use Rattle.tree.specs.Materialise.{materialise}
 use Rattle.rules.specs.Cell.{Cell, cells-of}
@@ -41,7 +41,7 @@ module _ (T : ℕ) (ws : List ℕ) (n : ℕ) where
     kept : k .kind ≡ 2 → part-kept T (k .len) (take (k .count) (drop (k .first) ws)) ≡ true
     ends : k .kind ≡ 2 → k .position + k .len ≤ 4294967295
 
-  typed-of : (k : Cell) → kind-broken true k ≡ false → id-broken T k ≡ false → (k .kind ≡ 2 → ⊥) → (k .kind ≡ 1) ⊎ ((k .kind ≡ 3) × (k .id ≡ 0))
+  typed-of : (k : Cell) → kind-broken k ≡ false → id-broken T k ≡ false → (k .kind ≡ 2 → ⊥) → (k .kind ≡ 1) ⊎ ((k .kind ≡ 3) × (k .id ≡ 0))
   unfolding kind-broken id-broken
   typed-of k h g other = go (ℕ-discrete (k .kind) 1) (ℕ-discrete (k .kind) 3)
     where
@@ -67,7 +67,7 @@ module _ (T : ℕ) (ws : List ℕ) (n : ℕ) where
       go (yes z) = absurd (true≢false (rw (eq-eqb c 1 z, e) at h))
       go (no z) = omega (arith, ltb-false 4294967295 (d .base + (k .position + k .len)) (rw (ne-eqb c 1 z) at g))
 
-  fine : (c w : ℕ) (d : Named) (ds : List Named) (k : Cell) (ks : List Cell) → Keeps T true ws n c w d ds k ks → Fine k
+  fine : (c w : ℕ) (d : Named) (ds : List Named) (k : Cell) (ks : List Cell) → Keeps T ws n c w d ds k ks → Fine k
   fine c w d ds k ks h = record {
     typed = typed-of k (h .kinds) (h .ids);
     inside = λ e. (part-of w k (h .words) e) .0;
@@ -75,20 +75,20 @@ module _ (T : ℕ) (ws : List ℕ) (n : ℕ) where
     ends = ends-of c d k (h .top) (h .ends);
   }
 
-  all-fine : (c w : ℕ) (ds : List Named) (ks : List Cell) → 0 < c → lowest-from T true ws n c w ds ks ≡ 0 → (j : ℕ) (k : Cell) (rest : List Cell) → drop j ks ≡ k ∷ rest → Fine k
+  all-fine : (c w : ℕ) (ds : List Named) (ks : List Cell) → 0 < c → lowest-from T ws n c w ds ks ≡ 0 → (j : ℕ) (k : Cell) (rest : List Cell) → drop j ks ≡ k ∷ rest → Fine k
   unfolding lowest-from
   all-fine c w ds [] z h zero k rest e = let s : 0 ≡ suc (length rest) = ap length e in absurd (omega (arith, s))
   all-fine c w ds [] z h (suc j) k rest e = let s : 0 ≡ suc (length rest) = ap length e in absurd (omega (arith, s))
   all-fine c w [] (k₀ ∷ ks) z h j k rest e = absurd (omega arith)
   all-fine c w (d ∷ ds) (k₀ ∷ ks) z h zero k rest e =
-      let (b, r) = accepted-step T true ws n c w d ds k₀ ks z h in
+      let (b, r) = accepted-step T ws n c w d ds k₀ ks z h in
       let same : k₀ ≡ k = ap (λ (l : List Cell). getD l 0 k₀) e in
-      subst Fine same (fine c w d ds k₀ ks (keeps T true ws n c w d ds k₀ ks b))
+      subst Fine same (fine c w d ds k₀ ks (keeps T ws n c w d ds k₀ ks b))
   all-fine c w (d ∷ ds) (k₀ ∷ ks) z h (suc j) k rest e =
-      let (b, r) = accepted-step T true ws n c w d ds k₀ ks z h in
+      let (b, r) = accepted-step T ws n c w d ds k₀ ks z h in
       all-fine (suc c) (words-end w k₀) (first-named c d k₀ (next-named d k₀ ds)) ks (omega arith) r j k rest e
 
-lowest-none : (T : ℕ) (cs ws : List ℕ) → bad-cell T 0 true cs ws ≡ none → lowest-from T true ws (length (cells-of cs)) 1 0 (top-named 0 ∷ []) (cells-of cs) ≡ 0
+lowest-none : (T : ℕ) (cs ws : List ℕ) → bad-cell T 0 cs ws ≡ none → lowest-from T ws (length (cells-of cs)) 1 0 (top-named 0 ∷ []) (cells-of cs) ≡ 0
 unfolding bad-cell
 lowest-none T cs ws h = outer (eqb (length cs) 0 || not (eqb (length cs % cell-width) 0)) _ h
   where
@@ -100,7 +100,7 @@ lowest-none T cs ws h = outer (eqb (length cs) 0 || not (eqb (length cs % cell-w
     outer true n h = let bad : _≡_ {A = ℕ} 0 1 = cc in absurd (omega arith)
     outer false n h = inner n h
 
-module _ (T : ℕ) (cs ws : List ℕ) (ok : bad-cell T 0 true cs ws ≡ none) where
+module _ (T : ℕ) (cs ws : List ℕ) (ok : bad-cell T 0 cs ws ≡ none) where
   fine-at : (i : ℕ) → i * cell-width + cell-width ≤ length cs → Fine T ws (length (cells-of cs)) (cell-at cs i)
   fine-at i l = all-fine T ws (length (cells-of cs)) 1 0 (top-named 0 ∷ []) (cells-of cs) (omega arith) (lowest-none T cs ws ok) i (cell-at cs i) (drop (suc i) (cells-of cs)) (cells-drop i cs l)
 
@@ -129,8 +129,8 @@ module _ (T : ℕ) (cs ws : List ℕ) (ok : bad-cell T 0 true cs ws ≡ none) wh
   pub total-few : Short ws → cells-before cs (length cs / cell-width) ≤ items cs ws
   unfolding items
   total-few short =
-      let a = accepted-decode T 0 true ws short (omega arith) cs ok in
-      let b = accepted-size T 0 true cs ws (omega arith) short ok in
+      let a = accepted-decode T 0 ws short (omega arith) cs ok in
+      let b = accepted-size T 0 cs ws (omega arith) short ok in
       omega (arith, counted-all cs ws parts-fit, ap (λ x. nodes (unpacked x)) whole, nodes-unpacked (decode ws cs), ap length (a .1), b)
 
   pub written-is : cells 1 0 (unpacked (ahead cs ws 0)) ≡ materialise-cells cs ws

@@ -20,12 +20,12 @@ use Rattle.materialize.specs.Steps.{cells-before, unpacked, ahead, Ready
 use Rattle.materialize.proofs.Accepting.{typed-at, parts-fit, total-is, total-few, written-is}
 use Rattle.tree.specs.Well.{Short}
 
-call-refused : (T : ℕ) (cs ws : List ℕ) (work : ℕ) (out : List ℕ) → T ≤ 65536 → 96 * items cs ws + 96 ≤ work → bad-cell T 0 true cs ws ≡ none
+call-refused : (T : ℕ) (cs ws : List ℕ) (work : ℕ) (out : List ℕ) → T ≤ 65536 → 96 * items cs ws + 96 ≤ work → bad-cell T 0 cs ws ≡ none
     → result-room (nodes (materialise (handed-in cs ws))) 0 (length out) 0 ≡ refused 12 0
     → materialise-call T cs ws work out ≡ record { outcome = refused 12 0; outputs = out ∷ [] }
 unfolding materialise-call
 call-refused T cs ws work out types lent ok r =
-    rw (not-refused T 0 true cs ws work (result-room (nodes (materialise (handed-in cs ws))) 0 (length out) 0) types lent ok, r)
+    rw (not-refused T 0 cs ws work (result-room (nodes (materialise (handed-in cs ws))) 0 (length out) 0) types lent ok, r)
 
 cells-few : (cs ws : List ℕ) → length cs / cell-width ≤ items cs ws
 unfolding items
@@ -33,20 +33,20 @@ cells-few cs ws = omega arith
 
 module _ (T : ℕ) (cs ws : List ℕ) (work : ℕ) (out : List ℕ) where
   pub refuses-types : 65536 < T → record { outcome = refused 1 0; outputs = out ∷ [] } ≡ materialise-call T cs ws work out
-  refuses-types h = sym (materialise-refused T cs ws work out 1 0 (λ o. types-refused T 0 true cs ws work o h))
+  refuses-types h = sym (materialise-refused T cs ws work out 1 0 (λ o. types-refused T 0 cs ws work o h))
 
   module _ (types : T ≤ 65536) where
     pub refuses-work : ltb work (96 * items cs ws + 96) ≡ true → record { outcome = refused 11 0; outputs = out ∷ [] } ≡ materialise-call T cs ws work out
-    refuses-work h = sym (materialise-refused T cs ws work out 11 0 (λ o. work-refused T 0 true cs ws work o types (ltb-true work (96 * items cs ws + 96) h)))
+    refuses-work h = sym (materialise-refused T cs ws work out 11 0 (λ o. work-refused T 0 cs ws work o types (ltb-true work (96 * items cs ws + 96) h)))
 
     module _ (enough-work : ltb work (96 * items cs ws + 96) ≡ false) where
       pub lent : 96 * items cs ws + 96 ≤ work
       lent = ltb-false work (96 * items cs ws + 96) enough-work
 
-      pub refuses-cell : (c : ℕ) → bad-cell T 0 true cs ws ≡ some c → record { outcome = refused 15 c; outputs = out ∷ [] } ≡ materialise-call T cs ws work out
-      refuses-cell c h = sym (materialise-refused T cs ws work out 15 c (λ o. cell-refused T 0 true cs ws work o types lent c h))
+      pub refuses-cell : (c : ℕ) → bad-cell T 0 cs ws ≡ some c → record { outcome = refused 15 c; outputs = out ∷ [] } ≡ materialise-call T cs ws work out
+      refuses-cell c h = sym (materialise-refused T cs ws work out 15 c (λ o. cell-refused T 0 cs ws work o types lent c h))
 
-      module _ (ok : bad-cell T 0 true cs ws ≡ none) (total : ℕ) (total-here : total ≡ cells-before cs (length cs / cell-width)) where
+      module _ (ok : bad-cell T 0 cs ws ≡ none) (total : ℕ) (total-here : total ≡ cells-before cs (length cs / cell-width)) where
         n-is : total ≡ nodes (materialise (handed-in cs ws))
         n-is = total-here ∙ total-is T cs ws ok
 

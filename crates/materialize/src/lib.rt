@@ -346,7 +346,7 @@ pub fn materialize(
     if cells::too_little_work(cells, words, &*work) {
         return Materialized::Refused(11, 0);
     }
-    if let words::Found::At(at) = cells::tree_check(cells, words, types, 0, true, work) {
+    if let words::Found::At(at) = cells::tree_check(cells, words, types, 0, work) {
         return Materialized::Refused(15, at);
     }
     let total = count_cells(cells);

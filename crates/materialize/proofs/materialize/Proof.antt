@@ -3,7 +3,7 @@ use native.Mathlib.Omega.{arith}
 use lib.Dec.{ltb}
 use lib.ListN.{length}
 use Prim.Native.Nat.{ℕ, _+_, _-_, _*_, _≤_}
-use mathlib.Core.Bool.{true, false}
+use mathlib.Core.Bool.{false}
 use mathlib.Core.List.{List}
 use mathlib.Core.Option.{none}
 use mathlib.Core.Path.{_≡_, sym, ap, _∙_}
@@ -62,7 +62,7 @@ module _ (e : tie.After-enum-told) where
   abbrev past-11 : tie.Else2
   past-11 = e .before .before .before .before .before .before
 
-  no-fault : bad-cell (types given) 0 true (cs given) (ws given) ≡ none
+  no-fault : bad-cell (types given) 0 (cs given) (ws given) ≡ none
   no-fault = sym (e .before .before .before .before .tree-check .ensures) ∙ ap place-found (e .enum-told .given .1)
 
   short-words : Short (ws given)
@@ -118,7 +118,7 @@ write-back-requires c κs =
     let z = given e in
     let checked = e .before .before .before .before .tree-check in
     ready (types z) (cs z) (ws z) (work z) (out z) (few-types (past-1 e)) (enough-work (past-11 e)) (no-fault e)
-    (n .count-cells .result) (n .count-cells .ensures) (checked .last .1 .1 .1 .1 .1 .0) (checked .kept .1 .1 .1 .1 .1 .0)
+    (n .count-cells .result) (n .count-cells .ensures) (checked .last .1 .1 .1 .1 .0) (checked .kept .1 .1 .1 .1 .0)
     (short-words e) (omega (arith, c .before .before .before .if3 .left)) (omega (arith, c .before .before .if4 .left))
 
 returns-6 : tie.Need-returns-6
