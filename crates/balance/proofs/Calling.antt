@@ -23,20 +23,20 @@ items-are cs ws = refl
 
 module _ (T : ℕ) (f : Bool) (cs ws : List ℕ) (work : ℕ) (out words : List ℕ) where
   pub refuses-types : 65536 < T → record { outcome = refused 1 0; outputs = out ∷ words ∷ [] } ≡ balance-call T f cs ws work out words
-  refuses-types h = sym (balance-refused T cs ws work out 1 0 f words (λ o. types-refused T 0 true cs ws work o h))
+  refuses-types h = sym (balance-refused T cs ws work out 1 0 f words (λ o. types-refused T 0 cs ws work o h))
 
   module _ (types : T ≤ 65536) where
     pub refuses-work : ltb work (96 * items cs ws + 96) ≡ true → record { outcome = refused 11 0; outputs = out ∷ words ∷ [] } ≡ balance-call T f cs ws work out words
-    refuses-work h = sym (balance-refused T cs ws work out 11 0 f words (λ o. work-refused T 0 true cs ws work o types (ltb-true work (96 * items cs ws + 96) h)))
+    refuses-work h = sym (balance-refused T cs ws work out 11 0 f words (λ o. work-refused T 0 cs ws work o types (ltb-true work (96 * items cs ws + 96) h)))
 
     module _ (enough-work : ltb work (96 * items cs ws + 96) ≡ false) where
       pub lent : 96 * items cs ws + 96 ≤ work
       lent = ltb-false work (96 * items cs ws + 96) enough-work
 
-      pub refuses-cell : (c : ℕ) → bad-cell T 0 true cs ws ≡ some c → record { outcome = refused 15 c; outputs = out ∷ words ∷ [] } ≡ balance-call T f cs ws work out words
-      refuses-cell c h = sym (balance-refused T cs ws work out 15 c f words (λ o. cell-refused T 0 true cs ws work o types lent c h))
+      pub refuses-cell : (c : ℕ) → bad-cell T 0 cs ws ≡ some c → record { outcome = refused 15 c; outputs = out ∷ words ∷ [] } ≡ balance-call T f cs ws work out words
+      refuses-cell c h = sym (balance-refused T cs ws work out 15 c f words (λ o. cell-refused T 0 cs ws work o types lent c h))
 
-      module _ (ok : bad-cell T 0 true cs ws ≡ none) where
+      module _ (ok : bad-cell T 0 cs ws ≡ none) where
         pub refuses-many : most-items < length cs / cell-width + length ws / 4 → record { outcome = refused 12 0; outputs = out ∷ words ∷ [] } ≡ balance-call T f cs ws work out words
         refuses-many h = sym (balance-many T types cs ws work out f words ok lent (omega (arith, items-are cs ws)))
 

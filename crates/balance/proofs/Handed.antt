@@ -1,7 +1,6 @@
 -- What accepted cells are: the cells of a tree whose starts and ends fit 32 bits, and what each of them says. Assumes nothing.
 use mathlib.Core.Path.{_≡_, refl, sym, ap, subst, _∙_}
 use mathlib.Core.List.{List, [], _∷_, append-nil}
-use mathlib.Core.Bool.{true}
 use mathlib.Core.Option.{some}
 use mathlib.Core.Logic.{inl}
 use Prim.Native.Nat.{ℕ, suc, _+_, _*_, _≤_, _<_}
@@ -61,7 +60,7 @@ pub record Handed (cs ws : List ℕ) (n : ℕ) : Type 0 where
 
 module _ (cs ws : List ℕ) (n : ℕ) (g : Given cs ws n) where
   abbrev kept : Kept (g .types) 4294967295 cs ws
-  kept = accepted-kept (g .types) 0 true ws (short-of ws (g .short)) (omega arith) cs (g .accepted)
+  kept = accepted-kept (g .types) 0 ws (short-of ws (g .short)) (omega arith) cs (g .accepted)
 
   abbrev whole : Trees
   whole = tree (some (kept .top)) 0 (kept .length) (kept .kids) nil

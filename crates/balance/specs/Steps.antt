@@ -1,6 +1,6 @@
 -- What the steps of balance promise each other: for the contracts of private functions only.
 use mathlib.Core.Path.{_≡_}
-use mathlib.Core.Bool.{Bool, true, cond}
+use mathlib.Core.Bool.{Bool, cond}
 use mathlib.Core.List.{List, [], _∷_, _++_}
 use mathlib.Core.Option.{none}
 use Prim.Native.Nat.{ℕ, _+_, _-_, _*_, _/_, _≤_, _<_}
@@ -29,7 +29,7 @@ onwards (part s l ws rest) = part s l ws rest ∷ onwards rest
 -- n accepted cells and their packed words
 pub record Given (cs ws : List ℕ) (n : ℕ) : Type 0 where
   pub types : ℕ
-  pub accepted : bad-cell types 0 true cs ws ≡ none
+  pub accepted : bad-cell types 0 cs ws ≡ none
   pub short : (j : ℕ) → getD ws j 0 < 65536
   pub whole : n ≡ length cs / cell-width
 

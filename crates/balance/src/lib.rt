@@ -277,7 +277,7 @@ pub fn balance(
     if cells::too_little_work(cells, words, &*work) {
         return Balanced::Refused(11, 0);
     }
-    if let words::Found::At(at) = cells::tree_check(cells, words, types, 0, true, work) {
+    if let words::Found::At(at) = cells::tree_check(cells, words, types, 0, work) {
         return Balanced::Refused(15, at);
     }
     if MOST_ITEMS < cells.len() / CELL_WIDTH + words.len() / RECORD_WIDTH {

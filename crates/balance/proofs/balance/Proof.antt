@@ -4,7 +4,7 @@ use Rattle.rules.specs.Calls.{items}
 use Rattle.balance.proofs.Calling.{refuses-types, refuses-work, lent, refuses-cell, refuses-many, ready, settles}
 use Rattle.words.specs.Answer.{place-found}
 use Prim.Native.Nat.{ℕ, _+_, _*_, _≤_}
-use mathlib.Core.Bool.{Bool, true, false}
+use mathlib.Core.Bool.{Bool, false}
 use mathlib.Core.List.{List}
 use mathlib.Core.Option.{none}
 use mathlib.Core.Path.{_≡_, sym, ap, _∙_}
@@ -66,7 +66,7 @@ module _ (e : tie.After-enum-told) where
   abbrev past-11 : tie.Else2
   past-11 = e .before .before .before .before .before .before
 
-  no-fault : bad-cell (types given) 0 true (cs given) (ws given) ≡ none
+  no-fault : bad-cell (types given) 0 (cs given) (ws given) ≡ none
   no-fault = sym (e .before .before .before .before .tree-check .ensures) ∙ ap place-found (e .enum-told .given .1)
 
 returns : tie.Need-returns
@@ -104,7 +104,7 @@ balance-accepted-requires c κs =
     let z = given e in
     let checked = e .before .before .before .before .tree-check in
     ready (types z) (none-first z) (cs z) (ws z) (work z) (out z) (packed z) (few-types (past-1 e)) (enough-work (past-11 e)) (no-fault e)
-    (omega (arith, c .before .before .before .if3 .left)) (length (checked .last .1 .1 .1 .1 .1 .0)) (checked .kept .1 .1 .1 .1 .1 .0)
+    (omega (arith, c .before .before .before .if3 .left)) (length (checked .last .1 .1 .1 .1 .0)) (checked .kept .1 .1 .1 .1 .0)
     (λ j. omega (arith, e .before .before .before .before .before .before .before .before .before .before .before .before .before .shared-slice-known2 .given j))
 
 returns-5 : tie.Need-returns-5
