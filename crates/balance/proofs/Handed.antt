@@ -15,13 +15,10 @@ use Rattle.store.proofs.Flow.{relative-nodes, end, flow}
 use Rattle.balance_core.specs.Rows.{Ends}
 use Rattle.rules.specs.Calls.{handed-in}
 use Rattle.rules.proofs.Decoded.{accepted-kept}
+use Rattle.rules.proofs.PartRead.{short-of}
 use Rattle.balance.specs.Steps.{bases, onwards, Given}
 use Rattle.balance.proofs.Sites.{Fits, From, Site, sites}
-use Rattle.tree.specs.Well.{Parts, Sound, Short}
-
-short-of : (ws : List ℕ) → ((j : ℕ) → getD ws j 0 < 65536) → Short ws
-short-of [] f = tt
-short-of (w ∷ ws) f = (f 0, short-of ws (λ j. f (suc j)))
+use Rattle.tree.specs.Well.{Parts, Sound}
 
 sound-fits : (T q lo hi : ℕ) (ts : Trees) → q ≤ lo → hi ≤ 4294967295 → Sound T lo hi ts → Fits q ts
 sound-fits T q lo hi nil a b w = tt

@@ -1,4 +1,5 @@
 pub mod Opens
+pub mod Lines
 pub mod Turns
 pub mod Begins
 pub mod Writes

@@ -1,18 +1,21 @@
--- One cell's line counted and written, and the pass that writes the lines from its beginning to its end. Assumes nothing.
+-- One cell's lines counted and written, and the pass that writes the lines from its beginning to its end. Assumes nothing.
 use mathlib.Core.Path.{_≡_, sym, ap, _∙_}
-use mathlib.Core.Bool.{true, false, cond}
+use mathlib.Core.Bool.{Bool, true, false, cond}
 use mathlib.Core.List.{List, [], _∷_, _++_}
-use Prim.Native.Nat.{ℕ, suc, _+_, _-_, _*_, _≤_, _<_}
+use Prim.Native.Nat.{ℕ, zero, suc, _+_, _-_, _*_, _/_, _≤_, _<_}
 use native.Mathlib.Omega.{arith}
 use native.Mathlib.Nat.{add-zero}
-use lib.ListN.{length, getD, take, drop, set, take-append-drop, length-append}
-use Rattle.tree.specs.Cells.{cell-id, cell-position, cell-length, cell-first, cell-next}
-use Rattle.words.specs.Words.{put, front}
-use Rattle.words.proofs.Stores.{put-four}
-use Rattle.words.proofs.Runs.{Fronted, fronted-none, fronted-length, fronted-next, fronted-all}
+use lib.ListN.{length, getD, take, drop, take-append-drop, length-append}
+use lib.Seq.{getD-take}
+use Rattle.tree.specs.Cells.{cell-width, cell-kind, cell-id, cell-position, cell-length, cell-next, part-at}
 use Rattle.tree.specs.Calls.{list-cells}
-use Rattle.listing.specs.Steps.{is-listed, own-line, lines-from, noted, links-noted, Ready, Lent}
-use Rattle.listing.proofs.Turns.{State, turn, state-end, noted-length}
+use Rattle.words.specs.Words.{put, front}
+use Rattle.words.proofs.Runs.{Fronted, fronted-none, fronted-length, fronted-next, fronted-all}
+use Rattle.rules.proofs.PartRead.{short-parts}
+use Rattle.part_lines.specs.Steps as part
+use Rattle.listing.specs.Steps.{is-listed, own-line, cell-lines, lines-from, noted, child-of, links-noted, Ready, Part-ready, Cell-ready, Lent}
+use Rattle.listing.proofs.Lines.{lines-other, lines-part}
+use Rattle.listing.proofs.Turns.{State, Turn, Part-here, turn, state-end, noted-length}
 use Rattle.listing.proofs.Begins.{Begun, begun, first-room, state-first}
 
 -- one step of the count
@@ -31,13 +34,23 @@ module _ (F : ℕ) (cs : List ℕ) (i n : ℕ) where
   unfolding lines-from
   count-end l = let e : n - i ≡ 0 = omega arith in rw e
 
+-- at most one for each cell
+pub lines-few : (F : ℕ) (cs : List ℕ) (i left : ℕ) → lines-from F cs i left ≤ left
+unfolding lines-from
+lines-few F cs i zero = omega arith
+lines-few F cs i (suc left) = go (is-listed F cs i) (lines-few F cs (i + 1) left)
+  where
+    go : (x : Bool) → lines-from F cs (i + 1) left ≤ left → cond x (lines-from F cs (i + 1) left + 1) (lines-from F cs (i + 1) left) ≤ suc left
+    go true h = omega arith
+    go false h = omega arith
+
 -- the line of one cell
 module _ (F : ℕ) (cs : List ℕ) (i q d : ℕ) where
   pub own-some : is-listed F cs i ≡ true → own-line F cs i q d ≡ d ∷ cell-id cs i ∷ (q + cell-position cs i) ∷ (q + cell-position cs i + cell-length cs i) ∷ []
   unfolding own-line
   own-some h = rw h
 
-  pub own-none : is-listed F cs i ≡ false → own-line F cs i q d ≡ []
+  own-none : is-listed F cs i ≡ false → own-line F cs i q d ≡ []
   unfolding own-line
   own-none h = rw h
 
@@ -47,91 +60,127 @@ module _ (F : ℕ) (cs : List ℕ) (i q d : ℕ) where
   pub no-words : is-listed F cs i ≡ false → length (own-line F cs i q d) ≡ 0
   no-words h = ap length (own-none h)
 
-  pub put-some : (out : List ℕ) (at : ℕ) → at + 4 ≤ length out → is-listed F cs i ≡ true
-      → set (set (set (set out at d) (at + 1) (cell-id cs i)) (at + 2) (q + cell-position cs i)) (at + 3) (q + cell-position cs i + cell-length cs i)
-      ≡ put out at (own-line F cs i q d)
-  put-some out at l h =
-      put-four out at d (cell-id cs i) (q + cell-position cs i) (q + cell-position cs i + cell-length cs i) l
-      ∙ ap (put out at) (sym (own-some h))
-
   pub put-none : (out : List ℕ) (at : ℕ) → is-listed F cs i ≡ false → out ≡ put out at (own-line F cs i q d)
   put-none out at h =
       sym (take-append-drop at out) ∙ (ap (λ (k : ℕ). take at out ++ drop k out) (sym (add-zero at)) ∙ ap (put out at) (sym (own-none h)))
 
--- The pass before cell i, with `at` words written; `size` is the length of the work slice.
-pub record Pass (F S : ℕ) (cs out₀ out held : List ℕ) (size at i : ℕ) : Type 0 where
+-- words below m that are kept
+pub kept-below : (m : ℕ) (held held′ : List ℕ) → take m held′ ≡ take m held → (j : ℕ) → j < m → getD held′ j 0 ≡ getD held j 0
+kept-below m held held′ e j l = sym (getD-take m held′ j 0 l) ∙ (ap (λ (v : List ℕ). getD v j 0) e ∙ getD-take m held j 0 l)
+
+-- The pass before cell i, with `at` words written; `size` is the length of the work slice, and m of its words are for notes.
+pub record Pass (T F S : ℕ) (cs ws out₀ out held : List ℕ) (size m at i : ℕ) : Type 0 where
   pub rest : List ℕ
-  pub written : Fronted (list-cells F S cs) out₀ out rest at
-  pub state : State F cs held i rest
+  pub written : Fronted (list-cells F S cs ws) out₀ out rest at
+  pub state : State T F cs ws held m at i rest
   pub sized : length held ≡ size
 
-module _ {F S : ℕ} {cs : List ℕ} {n size room : ℕ} (lent : Lent F S cs n size room) where
-  abbrev begins : Begun F S cs
-  begins = begun (lent .types) F S cs (lent .fits) (lent .accepted)
+module _ {F S : ℕ} (cs ws : List ℕ) {n size room : ℕ} (lent : Lent F S cs ws n size room) where
+  abbrev begins : Begun (lent .types) F S cs ws
+  begins = begun (lent .types) F S cs ws (lent .types-fit) (lent .fits) (lent .short) (lent .accepted)
 
   pub top-fits : 7 ≤ length cs
   top-fits = omega (arith, begins .size)
 
-  pub first-fits : getD cs 4 0 * 2 ≤ size
-  first-fits = omega (arith, first-room F S cs begins, lent .whole, lent .work-fits)
+  pub first-fits : getD cs 4 0 * 2 ≤ n * 2
+  first-fits = omega (arith, first-room (lent .types) F S cs ws begins, lent .whole)
 
-  pub pass-first : (out held held′ : List ℕ) → held′ ≡ noted held (getD cs 4 0) S 0 → length held ≡ size → getD cs 4 0 ≤ 4294967295 → Pass F S cs out out held′ size 0 1
-  pass-first out held held′ h e m =
+  pub pass-first : (out held held′ : List ℕ) → held′ ≡ noted held (getD cs 4 0) S 0 → length held ≡ size → getD cs 4 0 ≤ 4294967295 → Pass (lent .types) F S cs ws out out held′ size (n * 2) 0 1
+  pass-first out held held′ h e k =
       rw h (record {
-        rest = list-cells F S cs;
-        written = fronted-none (list-cells F S cs) out;
-        state = state-first F S cs begins held (omega (arith, e, first-fits)) m;
+        rest = list-cells F S cs ws;
+        written = fronted-none (list-cells F S cs ws) out;
+        state = state-first (lent .types) F S cs ws begins held (n * 2) (omega (arith, e, lent .work-fits)) first-fits k;
         sized = noted-length held (getD cs 4 0) S 0 ∙ e;
       })
 
 -- What a turn at cell i finds: q and d are the words noted for it.
-pub record Found (F S : ℕ) (cs out₀ out held : List ℕ) (size at i q d : ℕ) : Type 0 where
-  pub notes-fit : i * 2 + 1 < length held
+pub record Found (T F S : ℕ) (cs ws out₀ out held : List ℕ) (size m at i q d : ℕ) : Type 0 where
+  pub notes-fit : i * 2 + 2 ≤ size
   pub ready : Ready cs i q d
-  pub line-fits : at + length (own-line F cs i q d) ≤ length out
-  pub links-fit : (cell-first cs i * 2 ≤ length held) × (cell-next cs i * 2 ≤ length held)
-  pub goes-on : (out′ held′ : List ℕ) (at′ : ℕ) → at′ ≡ at + length (own-line F cs i q d) → out′ ≡ put out at (own-line F cs i q d) → held′ ≡ links-noted F cs held i q d
-      → cell-first cs i ≤ 4294967295 → cell-next cs i ≤ 4294967295 → Pass F S cs out₀ out′ held′ size at′ (i + 1)
+  pub cell-ready : Cell-ready F cs ws i q d size m (length out) at
+  pub links-fit : (child-of cs i * 2 ≤ size) × (cell-next cs i * 2 ≤ size)
+  pub goes-on : (out′ held′ held″ : List ℕ) (at′ : ℕ) → at′ ≡ at + length (cell-lines F cs ws i q d) → out′ ≡ put out at (cell-lines F cs ws i q d)
+      → take m held′ ≡ take m held → length held′ ≡ size → held″ ≡ links-noted F cs held′ i q d
+      → child-of cs i ≤ 4294967295 → cell-next cs i ≤ 4294967295 → Pass T F S cs ws out₀ out′ held″ size m at′ (i + 1)
 
 links-length : (F : ℕ) (cs held : List ℕ) (i q d : ℕ) → length (links-noted F cs held i q d) ≡ length held
 unfolding links-noted
 links-length F cs held i q d =
-    noted-length (noted held (cell-next cs i) q d) (cell-first cs i) (q + cell-position cs i) (cond (is-listed F cs i) (d + 1) d)
+    noted-length (noted held (cell-next cs i) q d) (child-of cs i) (q + cell-position cs i) (cond (is-listed F cs i) (d + 1) d)
     ∙ noted-length held (cell-next cs i) q d
 
-module _ {F S : ℕ} {cs : List ℕ} {n size : ℕ} {out₀ out held : List ℕ} {at i : ℕ} (lent : Lent F S cs n size (length out₀)) (p : Pass F S cs out₀ out held size at i) where
+module _ {F S : ℕ} (cs ws : List ℕ) {n size : ℕ} (out₀ : List ℕ) {out held : List ℕ} {at i : ℕ} (lent : Lent F S cs ws n size (length out₀))
+    (p : Pass (lent .types) F S cs ws out₀ out held size (n * 2) at i) where
+  abbrev T : ℕ
+  T = lent .types
+
   -- what is written and what is still to be written have room
-  fills : at + length (p .rest) ≤ length out₀
+  fills : at + length (p .rest) ≡ length (list-cells F S cs ws)
   fills =
       let w = p .written in
       let e = sym (length-append (w .done) (p .rest)) ∙ ap length (w .joined) in
-      omega (arith, e, w .size, lent .lines-fit)
+      omega (arith, e, w .size)
 
   pub out-length : length out ≡ length out₀
-  out-length = fronted-length (list-cells F S cs) out₀ out (p .rest) at (p .written) (omega (arith, fills))
+  out-length = fronted-length (list-cells F S cs ws) out₀ out (p .rest) at (p .written) (omega (arith, fills, lent .lines-fit))
 
-  pub pass-end : n ≤ i → out ≡ front (list-cells F S cs) out₀
-  pass-end l = fronted-all (list-cells F S cs) out₀ out (p .rest) at (p .written) (state-end F cs held i (p .rest) (omega (arith, lent .whole)) (p .state))
+  pub pass-end : n ≤ i → out ≡ front (list-cells F S cs ws) out₀
+  pass-end l = fronted-all (list-cells F S cs ws) out₀ out (p .rest) at (p .written) (state-end T F cs ws held (n * 2) at i (p .rest) (omega (arith, lent .whole)) (p .state))
 
-  pub pass-turn : i < n → Found F S cs out₀ out held size at i (getD held (i * 2) 0) (getD held (i * 2 + 1) 0)
-  pass-turn l =
-      let t = turn F cs held i (p .rest) (omega (arith, lent .whole)) (p .state) in
-      let q = getD held (i * 2) 0 in
-      let d = getD held (i * 2 + 1) 0 in
-      let line = own-line F cs i q d in
-      let e = ap length (t .splits) ∙ length-append line (t .later) in
-      let first : cell-first cs i * 2 ≤ length held = omega (arith, t .first-room, p .sized, lent .work-fits, lent .whole) in
-      let next : cell-next cs i * 2 ≤ length held = omega (arith, t .next-room, p .sized, lent .work-fits, lent .whole) in
-      record {
-        notes-fit = omega (arith, p .sized, lent .work-fits);
-        ready = record { inside = omega (arith, lent .whole); ends = t .ends; shallow = t .shallow };
-        line-fits = omega (arith, e, fills, out-length);
-        links-fit = (first, next);
-        goes-on = λ out′ held′ at′ a o h m₁ m₂.
-            rw h (record {
-              rest = t .later;
-              written = fronted-next (list-cells F S cs) out₀ out (p .rest) at (p .written) line (t .later) out′ at′ (sym a) (t .splits) o;
-              state = t .goes-on first next m₁ m₂;
-              sized = links-length F cs held i q d ∙ p .sized;
-            });
-      }
+  module _ (l : i < n) where
+    abbrev q : ℕ
+    q = getD held (i * 2) 0
+
+    abbrev d : ℕ
+    d = getD held (i * 2 + 1) 0
+
+    abbrev found : Turn T F cs ws held (n * 2) at i (p .rest) q d
+    found = turn T F cs ws held (n * 2) at i (p .rest) (omega (arith, lent .whole)) (p .state)
+
+    split : length (p .rest) ≡ length (cell-lines F cs ws i q d) + length (found .later)
+    split = ap length (found .splits) ∙ length-append (cell-lines F cs ws i q d) (found .later)
+
+    ready-here : Ready cs i q d
+    ready-here = record { inside = omega (arith, lent .whole); ends = found .ends; shallow = found .shallow }
+
+    part-ready : cell-kind cs i ≡ 2 → Part-ready F cs ws i q d size (n * 2) (length out) at
+    part-ready is =
+        let here : Part-here T cs ws i = found .packed-here is in
+        let same = ap length (lines-part F cs ws i q d is) in
+        record {
+          is = is;
+          ready = ready-here;
+          inside = here .inside;
+          lent = record {
+            types = T;
+            len = cell-length cs i;
+            parts = short-parts T (q + cell-position cs i) (cell-length cs i) (part-at cs ws i) (here .short) (here .kept);
+            ends = found .ends;
+            work-fits = omega (arith, here .few, lent .work-fits);
+            lines-fit = omega (arith, same, split, fills, lent .lines-fit, out-length);
+            shallow = omega (arith, same, split, fills, lent .few, found .above);
+          };
+        }
+
+    pub pass-turn : Found T F S cs ws out₀ out held size (n * 2) at i q d
+    pass-turn =
+        let first : child-of cs i * 2 ≤ n * 2 = omega (arith, found .first-room, lent .whole) in
+        let next : cell-next cs i * 2 ≤ n * 2 = omega (arith, found .next-room, lent .whole) in
+        record {
+          notes-fit = omega (arith, found .notes-fit, lent .work-fits);
+          ready = ready-here;
+          cell-ready = record {
+            inside = ready-here .inside;
+            line = λ other. record { ready = ready-here; fits = omega (arith, ap length (lines-other F cs ws i q d other), split, fills, lent .lines-fit, out-length) };
+            packed = part-ready;
+          };
+          links-fit = (omega (arith, first, lent .work-fits), omega (arith, next, lent .work-fits));
+          goes-on = λ out′ held′ held″ at′ a o k z h m₁ m₂.
+              rw h (record {
+                rest = found .later;
+                written = fronted-next (list-cells F S cs ws) out₀ out (p .rest) at (p .written) (cell-lines F cs ws i q d) (found .later) out′ at′ (sym a) (found .splits) o;
+                state = found .goes-on held′ at′ a (kept-below (n * 2) held held′ k) (omega (arith, z, lent .work-fits)) first next m₁ m₂;
+                sized = links-length F cs held′ i q d ∙ z;
+              });
+        }

@@ -13,7 +13,7 @@ use lib.Dec.{ltb, eqb}
 use lib.ListN.{length, getD, take, drop}
 use Rattle.part.proofs.Faults.{part-sound}
 use Rattle.tree.specs.Trees.{nodes}
-use Rattle.tree.specs.Cells.{decode, decode-from, absolute, cells, tree-cells, cell-width, cell-kind, cell-length}
+use Rattle.tree.specs.Cells.{decode, decode-from, absolute, cells, tree-cells, cell-width, cell-kind, cell-length, part-at}
 use Rattle.tree.specs.Calls.{materialise-cells}
 use Rattle.tree.specs.Materialise.{materialise}
 use Rattle.rules.specs.Cell.{Cell, cells-of}
@@ -27,7 +27,7 @@ use Rattle.rules.proofs.Accepted.{accepted-size}
 use Rattle.rules.proofs.Decoded.{accepted-decode}
 use Rattle.cells.specs.Steps.{cell-at}
 use Rattle.cells.proofs.Reading.{cells-drop}
-use Rattle.materialize.specs.Steps.{unpacked, cells-before, ahead, part-at, Part-fits, Typed}
+use Rattle.materialize.specs.Steps.{unpacked, cells-before, ahead, Part-fits, Typed}
 use Rattle.materialize.proofs.Handing.{nodes-relative}
 use Rattle.materialize.proofs.Reading.{nodes-unpacked, materialised}
 use Rattle.materialize.proofs.Finishing.{counted-all}
@@ -136,7 +136,3 @@ module _ (T : ℕ) (cs ws : List ℕ) (ok : bad-cell T 0 cs ws ≡ none) where
   pub written-is : cells 1 0 (unpacked (ahead cs ws 0)) ≡ materialise-cells cs ws
   unfolding materialise-cells tree-cells
   written-is = ap (λ x. cells 1 0 (unpacked x)) whole ∙ ap (λ x. cells 1 0 x) (sym (materialised 0 (decode ws cs)))
-
-pub short-of : (ws : List ℕ) → ((j : ℕ) → getD ws j 0 < 65536) → Short ws
-short-of [] f = tt
-short-of (w ∷ ws) f = (f 0, short-of ws (λ j. f (suc j)))

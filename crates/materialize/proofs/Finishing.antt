@@ -11,10 +11,10 @@ use lib.ListN.{length, getD, drop, length-drop}
 use lib.Seq.{length-take-le, drop-cons}
 use Rattle.words.specs.Words.{front}
 use Rattle.tree.specs.Trees.{Trees, nil, tree, part, _⊕_, nodes, siblings}
-use Rattle.tree.specs.Cells.{kind, id-word, packed, cells, cell, unless-none, cell-tree, decode-from, leading, following, cell-width, id-place, position-place, length-place, first-place, count-place, next-place, cell-kind, cell-id, cell-position, cell-length, cell-first, cell-count, cell-next}
+use Rattle.tree.specs.Cells.{kind, id-word, packed, cells, cell, unless-none, cell-tree, decode-from, leading, following, cell-width, id-place, position-place, length-place, first-place, count-place, next-place, cell-kind, cell-id, cell-position, cell-length, cell-first, cell-count, cell-next, part-at}
 use Rattle.tree.proofs.CellLaws.{decode-at, length-cells}
 use Rattle.tree.proofs.PackLaws.{nodes-⊕}
-use Rattle.materialize.specs.Steps.{leads, Out, Made, Behind, unpacked, weight, cells-before, ahead, At, part-at, Part-fits, Wrote, Ready, Next}
+use Rattle.materialize.specs.Steps.{leads, Out, Made, Behind, unpacked, weight, cells-before, ahead, At, Part-fits, Wrote, Ready, Next}
 use Rattle.materialize.proofs.Unpacking.{behind-on}
 use Rattle.materialize.proofs.Reading.{unpacked-⊕, leading-following, nodes-so-far}
 

@@ -14,9 +14,9 @@ use lib.Dec.{eqb, ltb}
 use lib.ListN.{length, getD, set, drop, length-set, length-drop}
 use lib.Seq.{getD-set-same, getD-set-other, length-take-le}
 use Rattle.tree.specs.Trees.{Trees, tree, part, _⊕_, siblings}
-use Rattle.tree.specs.Cells.{kind, id-word, leading, following, cell-tree, cell-width, cell-kind, cell-id, cell-position, cell-length, cell-first, cell-count}
+use Rattle.tree.specs.Cells.{kind, id-word, leading, following, cell-tree, cell-width, cell-kind, cell-id, cell-position, cell-length, cell-first, cell-count, part-at}
 use Rattle.tree.proofs.CellLaws.{decode-at}
-use Rattle.materialize.specs.Steps.{Made, Taken, Put, Packed, Unpacked, unpacked, weight, cells-before, ahead, At, part-at, Part-fits, trees-left, Typed, Next-cell, Next-part, Wrote}
+use Rattle.materialize.specs.Steps.{Made, Taken, Put, Packed, Unpacked, unpacked, weight, cells-before, ahead, At, Part-fits, trees-left, Typed, Next-cell, Next-part, Wrote}
 use Rattle.materialize.proofs.Written.{siblings-⊕, siblings-nodes}
 use Rattle.materialize.proofs.Unpacking.{same-room}
 use Rattle.materialize.proofs.Reading.{unpacked-⊕, leading-following, siblings-following, following-all, marks-following, marks-frame, mark-at, made-frame}

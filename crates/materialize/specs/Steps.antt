@@ -11,7 +11,7 @@ use lib.ListN.{length, getD, set, take, drop}
 use Rattle.words.specs.Words.{start-of, record-width}
 use Rattle.tree.specs.Trees.{Trees, nil, tree, part, _⊕_, nodes, siblings}
 use Rattle.tree.specs.Materialise.{within, beyond, unpack}
-use Rattle.tree.specs.Cells.{kind, id-word, relative, decode-from, cell-width, next-place, cell-kind, cell-id, cell-position, cell-length, cell-first, cell-count, cell-next}
+use Rattle.tree.specs.Cells.{kind, id-word, relative, decode-from, cell-width, next-place, cell-kind, cell-id, cell-position, cell-length, cell-first, cell-count, cell-next, part-at}
 
 -- where a link leads: to the cell c, counted from 0, or to e where there is no tree
 unfoldable pub leads : Trees → (c e : ℕ) → ℕ
@@ -179,10 +179,6 @@ pub record At (held out cs ws : List ℕ) (total i cell sp mp : ℕ) : Type 0 wh
   pub before : cell ≡ cells-before cs i
   pub room : Room held out total
   pub deep : total + length cs / cell-width ≤ length held
-
--- the part of the cell i
-abbrev pub part-at : (cs ws : List ℕ) (i : ℕ) → List ℕ
-part-at cs ws i = take (cell-count cs i) (drop (cell-first cs i) ws)
 
 -- what is used of a cell that breaks no rule, if it is a part
 pub record Part-fits (cs ws : List ℕ) (i : ℕ) : Type 0 where

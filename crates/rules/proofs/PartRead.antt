@@ -9,7 +9,7 @@ use native.Mathlib.Omega.{arith}
 use native.Mathlib.Nat.{add-zero}
 use borrow.Author.Tests.{ltb-false, leb-true}
 use lib.Dec.{ltb, leb}
-use lib.ListN.{length}
+use lib.ListN.{length, getD}
 use Rattle.words.specs.Outcome.{Outcome, accepted, refused}
 use Rattle.part.specs.Part.{part-check}
 use Rattle.part.proofs.Faults.{part-whole}
@@ -196,6 +196,11 @@ module _ (T p l n : ℕ) where
 pub accepted-is : (o : Outcome) → is-accepted o ≡ true → (counts : List ℕ) × (o ≡ accepted counts)
 accepted-is (accepted counts) h = (counts, refl)
 accepted-is (refused number place) h = absurd (true≢false (sym h))
+
+-- words below 65,536, one by one
+pub short-of : (ws : List ℕ) → ((j : ℕ) → getD ws j 0 < 65536) → Short ws
+short-of [] f = tt
+short-of (w ∷ ws) f = (f 0, short-of ws (λ j. f (suc j)))
 
 -- a part of 16-bit words that keeps the rules
 pub short-parts : (T p l : ℕ) (ws : List ℕ) → Short ws → part-kept T l ws ≡ true → Parts T p l ws

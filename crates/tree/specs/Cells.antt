@@ -52,6 +52,10 @@ cell-count cs i = getD cs (i * cell-width + count-place) 0
 abbrev pub cell-next : (cs : List ℕ) (i : ℕ) → ℕ
 cell-next cs i = getD cs (i * cell-width + next-place) 0
 
+-- the words of a part's cell i, of the packed words ws: "kind 2: word offset of the part", "count (children or words)"
+abbrev pub part-at : (cs ws : List ℕ) (i : ℕ) → List ℕ
+part-at cs ws i = take (cell-count cs i) (drop (cell-first cs i) ws)
+
 -- one cell: "kind, id, position from the parent's start, length, first, count, next"
 abbrev pub cell : (kind id position length first count next : ℕ) → List ℕ
 cell k i s l a n x = k ∷ i ∷ s ∷ l ∷ a ∷ n ∷ x ∷ []

@@ -1,84 +1,138 @@
 -- `listing::list` meets its contract: each return is one case of the call. Assumes nothing.
 use borrow.Author.Needs.{needs}
+use borrow.Author.Tests.{ltb-true, ltb-false}
 use denote.Ref.{now}
-use mathlib.Core.Path.{sym, ap, _∙_}
+use mathlib.Core.Path.{_≡_, refl, sym, ap, _∙_}
+use mathlib.Core.Bool.{false}
+use mathlib.Core.List.{List}
+use Prim.Native.Nat.{ℕ, _+_, _-_, _*_, _/_, _≤_}
 use native.Mathlib.Omega.{arith}
+use lib.Dec.{ltb}
 use lib.ListN.{length}
 use Rattle.words.specs.Answer.{place-found}
+use Rattle.tree.specs.Cells.{cell-width}
 use Rattle.rules.specs.Calls.{items}
-use Rattle.listing.proofs.Cases.{many-types, little-work, bad-at, Passed, whole-cells, little-room, all-lent, all-written}
+use Rattle.rules.proofs.PartRead.{short-of}
+use Rattle.part_lines.proofs.Counts.{listed-few}
+use Rattle.listing.proofs.Writes.{lines-few}
+use Rattle.listing.proofs.Cases.{many-types, little-work, bad-at, Passed, whole-cells, too-many, little-room, all-lent, all-written}
 use Rattle.listing.proofs.list.Statement.{statement}
 use Rattle.listing.proofs.list.Tie as tie
 
+-- what the call is given
+module _ (z : tie.Start) where
+  abbrev T : ℕ
+  T = z .args .types
+
+  abbrev F : ℕ
+  F = z .args .first-repeat
+
+  abbrev S : ℕ
+  S = z .args .start
+
+  abbrev cs : List ℕ
+  cs = now (z .args .cells)
+
+  abbrev ws : List ℕ
+  ws = now (z .args .words)
+
+  abbrev work : ℕ
+  work = length (now (z .args .work))
+
+  abbrev out : List ℕ
+  out = now (z .args .lines)
+
+-- past 11
+module _ (e : tie.Else2) where
+  abbrev given₂ : tie.Start
+  given₂ = e .before .before .before .before .before .before .before .before
+
+  abbrev few-types : T given₂ ≤ 65536
+  few-types = e .before .before .before .if1 .left
+
+  work-lent : 96 * items (cs given₂) (ws given₂) + 96 ≤ work given₂
+  work-lent = ltb-false (work given₂) (96 * items (cs given₂) (ws given₂) + 96) (sym (e .before .too-little-work .ensures) ∙ e .if2 .left)
+
+-- past 15
+module _ (e : tie.After-enum-told) where
+  abbrev given : tie.Start
+  given = e .before .before .before .before .before .before .before .before .before .before .before .before .before .before
+
+  passed-at : Passed (T given) (F given) (S given) (cs given) (ws given) (work given) (out given)
+  passed-at = record {
+    types = few-types (e .before .before .before .before .before .before);
+    lent = work-lent (e .before .before .before .before .before .before);
+    fits = omega (arith, given .fits .start);
+    short = short-of (ws given) (λ j. omega (arith, e .before .before .before .before .before .before .before .before .before .before .before .before .shared-slice-known2 .given j));
+    ok = sym (e .before .before .before .before .tree-check .ensures) ∙ ap place-found (e .enum-told .given .1);
+  }
+
 returns : tie.Need-returns
 returns c =
-    let a = c .before .before .before .before .args in
-    many-types (a .types) (a .first-repeat) (a .start) (now (a .cells)) (length (now (a .work))) (now (a .lines)) (c .if1 .taken)
+    let z = c .before .before .before .before .before in
+    many-types (T z) (F z) (S z) (cs z) (ws z) (work z) (out z) (c .if1 .taken)
 
 returns-2 : tie.Need-returns-2
 returns-2 c =
-    let a = c .before .before .before .before .before .args in
-    little-work (a .types) (a .first-repeat) (a .start) (now (a .cells)) (length (now (a .work))) (now (a .lines)) (c .before .if1 .left) (c .if2 .taken)
+    let z = c .before .before .before .before .before .before .before .before in
+    let little = sym (c .before .too-little-work .ensures) ∙ c .if2 .taken in
+    little-work (T z) (F z) (S z) (cs z) (ws z) (work z) (out z) (c .before .before .before .if1 .left) (ltb-true (work z) (96 * items (cs z) (ws z) + 96) little)
 
 tree-check-requires : tie.Need-tree-check-requires
-unfolding items
-tree-check-requires c κs = search needs
+tree-check-requires c κs = (few-types (c .before), work-lent (c .before))
 
 returns-3 : tie.Need-returns-3
 returns-3 c =
-    let a = c .before .before .before .before .before .before .before .before .before .before .before .before .before .args in
-    let found = c .before .place .given in
-    bad-at (a .types) (a .first-repeat) (a .start) (now (a .cells)) (length (now (a .work))) (now (a .lines)) (c .before .before .before .before .before .before .before .before .before .if1 .left)
-    (found .0 .0) (c .before .before .before .before .before .before .before .before .if2 .left) (sym (c .before .before .before .before .before .tree-check .ensures) ∙ ap place-found (found .1))
-
--- past the tree check
-module _ (c : tie.After-enum-told) where
-  abbrev s₁ : tie.Start
-  s₁ = c .before .before .before .before .before .before .before .before .before .before .before .before
-
-  passed-at : Passed (s₁ .args .types) (s₁ .args .first-repeat) (s₁ .args .start) (now (s₁ .args .cells)) (length (now (s₁ .args .work))) (now (s₁ .args .lines))
-  passed-at = record {
-    types = c .before .before .before .before .before .before .before .before .if1 .left;
-    lent = c .before .before .before .before .before .before .before .if2 .left;
-    fits = omega (arith, s₁ .fits .start);
-    ok = sym (c .before .before .before .before .tree-check .ensures) ∙ ap place-found (c .enum-told .given .1);
-  }
+    let z = c .before .before .before .before .before .before .before .before .before .before .before .before .before .before .before in
+    let found = c .before .c .given in
+    bad-at (T z) (F z) (S z) (cs z) (ws z) (work z) (out z) (few-types (c .before .before .before .before .before .before .before)) (found .0 .0) (work-lent (c .before .before .before .before .before .before .before)) (sym (c .before .before .before .before .before .tree-check .ensures) ∙ ap place-found (found .1))
 
 count-lines-requires : tie.Need-count-lines-requires
 count-lines-requires c κs = whole-cells (passed-at c)
 
+add-count : tie.Need-add-count
+add-count c =
+    let z = given (c .before .before) in
+    omega (arith, c .count-listed .ensures, c .before .count-lines .ensures, listed-few (F z) (ws z), lines-few (F z) (cs z) 1 (length (cs z) / cell-width - 1))
+
 returns-4 : tie.Need-returns-4
-returns-4 c = little-room (passed-at (c .before .before)) (c .before .count-lines .result) (c .before .count-lines .ensures) (c .if3 .taken)
+returns-4 c = too-many (passed-at (c .before .before .before)) (c .before .before .count-lines .result) (c .before .count-listed .result) _ (c .before .before .count-lines .ensures) (c .before .count-listed .ensures) refl (c .if3 .taken)
+
+returns-5 : tie.Need-returns-5
+returns-5 c = little-room (passed-at (c .before .before .before .before)) (c .before .before .before .count-lines .result) (c .before .before .count-listed .result) _ (c .before .before .before .count-lines .ensures) (c .before .before .count-listed .ensures) refl (c .if4 .taken)
 
 write-lines-requires : tie.Need-write-lines-requires
 write-lines-requires c κs =
-    let count = c .before .before .before .count-lines in
-    all-lent (passed-at (c .before .before .before .before)) (count .result) (count .ensures) (c .before .before .if3 .left) _
-    (omega (arith, c .before .before .before .before .before .before .before .before .before .before .before .if2 .left, c .before .before .before .before .before .before .before .before .tree-check .kept))
+    all-lent (passed-at (c .before .before .before .before .before .before)) (c .before .before .before .before .before .count-lines .result) (c .before .before .before .before .count-listed .result) _ (c .before .before .before .before .before .count-lines .ensures) (c .before .before .before .before .count-listed .ensures) refl (c .before .before .before .if3 .left) (c .before .before .if4 .left) _
+    (c .before .before .before .before .before .before .before .before .before .before .tree-check .kept .1 .1 .1 .1 .0)
 
-returns-5 : tie.Need-returns-5
-returns-5 c =
-    let count = c .before .before .before .before .before .before .before .before .count-lines in
+returns-6 : tie.Need-returns-6
+returns-6 c =
     let write = c .before .before .before .before .write-lines in
-    all-written (passed-at (c .before .before .before .before .before .before .before .before .before)) (count .result) (count .ensures) (c .before .before .before .before .before .before .before .if3 .left) (write .last .1 .1 .1 .1 .1 .0) (write .ensures)
+    all-written (passed-at (c .before .before .before .before .before .before .before .before .before .before .before)) (c .before .before .before .before .before .before .before .before .before .before .count-lines .result) (c .before .before .before .before .before .before .before .before .before .count-listed .result) _ (c .before .before .before .before .before .before .before .before .before .before .count-lines .ensures) (c .before .before .before .before .before .before .before .before .before .count-listed .ensures) refl (c .before .before .before .before .before .before .before .before .if3 .left) (c .before .before .before .before .before .before .before .if4 .left)
+    (write .last .1 .1 .1 .1 .1 .1 .0) (write .ensures)
 
 pub list-spec : {M : Type 1} → statement M
 list-spec =
     tie.close
     (tie.spec
     returns
+    (λ c κs. search needs)
     (λ c. search needs)
     returns-2
-    (λ c. search needs)
     tree-check-requires
     (λ c. search needs)
     (λ c. search needs)
     returns-3
     (λ c. search needs)
     count-lines-requires
+    (λ c κs. search needs)
+    add-count
     (λ c. search needs)
     returns-4
+    (λ c. search needs)
+    returns-5
     write-lines-requires
     (λ c. search needs)
     (λ c. search needs)
-    returns-5)
+    returns-6)

@@ -12,7 +12,8 @@ use Rattle.words.specs.Answer.{place-found}
 use Rattle.tree.specs.Well.{Short}
 use Rattle.rules.specs.Lowest.{bad-cell}
 use Rattle.rules.specs.Calls.{items}
-use Rattle.materialize.proofs.Accepting.{short-of, total-few}
+use Rattle.rules.proofs.PartRead.{short-of}
+use Rattle.materialize.proofs.Accepting.{total-few}
 use Rattle.materialize.proofs.Calling.{refuses-types, refuses-work, lent, refuses-cell, refuses-many, refuses-room, accepts, ready}
 use borrow.Author.Needs.{needs}
 use Rattle.materialize.proofs.materialize.Statement.{statement}

@@ -5,10 +5,10 @@ use Prim.Native.Nat.{ℕ, _+_, _-_, _/_, _≤_}
 use mathlib.Core.List.{List}
 use mathlib.Core.Path.{_≡_, ap}
 use denote.Ref.{now}
-use Rattle.materialize.specs.Steps.{part-at, Next-part, Packed}
+use Rattle.materialize.specs.Steps.{Next-part, Packed}
 use Rattle.materialize.proofs.Placing.{part-ready, part-few, part-wrote}
 use borrow.Author.Needs.{needs}
-use Rattle.tree.specs.Cells.{cell-position, cell-first, cell-count}
+use Rattle.tree.specs.Cells.{cell-position, cell-first, cell-count, part-at}
 use Rattle.materialize.proofs.place_part.Statement.{statement}
 use Rattle.materialize.proofs.place_part.Tie as tie
 
