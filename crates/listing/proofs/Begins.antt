@@ -1,6 +1,6 @@
 -- Accepted cells begin with the top, and its children are what is left to be read after it. Assumes nothing.
-use mathlib.Core.Path.{_≡_, refl, sym, ap, ap₂, subst, _∙_}
-use mathlib.Core.List.{List, [], _++_, append-nil}
+use mathlib.Core.Path.{_≡_, sym, ap, _∙_}
+use mathlib.Core.List.{List, [], append-nil}
 use mathlib.Core.Option.{none, some}
 use Prim.Native.Nat.{ℕ, suc, _+_, _-_, _*_, _≤_}
 use native.Mathlib.Omega.{arith}
@@ -21,7 +21,7 @@ use Rattle.rules.proofs.Decoded.{accepted-kept}
 use Rattle.rules.proofs.PartWritten.{parts-kept}
 use Rattle.part_lines.specs.Steps.{listed-in}
 use Rattle.listing.specs.Steps.{lines-from, noted}
-use Rattle.listing.proofs.Opens.{Open, Fits, Packed-at, All-good, left-cells, left-packed, left-lines, push, push-cells, push-packed, push-lines, push-good}
+use Rattle.listing.proofs.Opens.{Open, Fits, All-good, left-cells, left-packed, left-lines, push, push-cells, push-packed, push-lines, push-good}
 use Rattle.listing.proofs.Lines.{counted}
 use Rattle.listing.proofs.Turns.{State, noted-push, link-room}
 

@@ -16,13 +16,13 @@ use Rattle.tree.specs.Trees.{Trees, nil, tree, part, is-nil}
 use Rattle.tree.specs.Cells.{absolute, packed, kind, id-word, cell-width, cell-kind, cell-id, cell-position, cell-length, part-at}
 use Rattle.tree.specs.Listing.{node-line, node-below}
 use Rattle.tree.proofs.ListingLaws.{view, view-tree, view-part}
-use Rattle.rules.specs.PartLowest.{ranges, is-accepted, part-kept}
+use Rattle.rules.specs.PartLowest.{is-accepted, part-kept}
 use Rattle.rules.proofs.Tests.{both}
 use Rattle.rules.proofs.PartRead.{accepted-is}
 use Rattle.part_lines.specs.Steps.{listed-in, listed-part}
 use Rattle.part_lines.proofs.Counts.{listed-append, length-listed}
 use Rattle.listing.specs.Steps.{is-listed, own-line, cell-lines, lines-from}
-use Rattle.listing.proofs.Opens.{Open, Fits, Packed-at, All-good, left-cells, left-packed, left-lines, push-packed, push-lines, after-later, after-tree, after-part, after-tree-good, after-part-good, part-words, Spelt, Spelt-part, spelt, spelt-part, tree-next, part-next, none-left}
+use Rattle.listing.proofs.Opens.{Open, Packed-at, All-good, left-cells, left-packed, left-lines, push-packed, push-lines, after-later, after-tree, after-part, after-tree-good, after-part-good, part-words, Spelt, Spelt-part, spelt, spelt-part, tree-next, part-next, none-left}
 
 -- the line of a cell, by its type
 pub own-is : (F : ℕ) (cs : List ℕ) (i q d : ℕ) (t : Option ℕ) (s l : ℕ) → cell-kind cs i ≡ kind t → cell-id cs i ≡ id-word t

@@ -1,7 +1,7 @@
 -- Accepted cells read one by one: the trees and parts still to be read, with the start of their parent and their depth, stand for the
 -- cells, packed words and lines that are left, and one cell is taken off at a time. Assumes nothing.
 use mathlib.Core.Path.{_≡_, refl, sym, ap, ap₂, _∙_}
-use mathlib.Core.Bool.{Bool, true, false, true≢false}
+use mathlib.Core.Bool.{true, false, true≢false}
 use mathlib.Core.List.{List, [], _∷_, _++_, append-assoc}
 use mathlib.Core.Option.{Option}
 use Prim.Native.Nat.{ℕ, suc, _+_, _*_, _≤_, _<_}
@@ -14,7 +14,7 @@ use Rattle.tree.specs.Materialise.{materialise}
 use Rattle.tree.specs.Cells.{cell, absolute, packed, unless-none, kind, id-word, cells, cell-width, cell-kind, cell-id, cell-position, cell-length, cell-first, cell-count, cell-next}
 use Rattle.tree.specs.Listing.{node-below, listing}
 use Rattle.tree.specs.Well.{Short}
-use Rattle.tree.proofs.ListingLaws.{view, view-nil}
+use Rattle.tree.proofs.ListingLaws.{view}
 use Rattle.tree.proofs.CellLaws.{length-cells}
 use Rattle.rules.specs.PartLowest.{part-kept}
 

@@ -8,16 +8,16 @@ use Prim.Native.Nat.{ℕ, zero, suc, _+_, _-_, _*_, _≤_, _<_}
 use native.Mathlib.Omega.{arith}
 use native.Mathlib.Nat.{add-zero}
 use lib.Dec.{eqb}
-use borrow.Author.Tests.{eq-eqb, ne-eqb, eqb-true}
-use lib.ListN.{length, getD, drop, set, length-set, length-append, length-drop}
+use borrow.Author.Tests.{eq-eqb, ne-eqb}
+use lib.ListN.{length, getD, drop, set, length-set, length-drop}
 use lib.Seq.{getD-set-same, getD-set-other}
 use Rattle.tree.specs.Trees.{Trees, nil, tree, part, nodes, is-nil}
 use Rattle.tree.specs.Cells.{packed, unless-none, cell-width, cell-kind, cell-position, cell-length, cell-first, cell-count, cell-next, part-at}
 use Rattle.tree.specs.Listing.{node-line, node-below}
 use Rattle.tree.specs.Well.{Short}
 use Rattle.rules.specs.PartLowest.{part-kept}
-use Rattle.listing.specs.Steps.{own-line, cell-lines, noted, child-of, links-noted}
-use Rattle.listing.proofs.Opens.{Open, Fits, All-good, left-cells, left-lines, push, after-later, after-tree, after-part, after-tree-good, after-part-good, part-inside, Spelt, Spelt-part, spelt, spelt-part, room, tree-next, part-next, none-left}
+use Rattle.listing.specs.Steps.{cell-lines, noted, child-of, links-noted}
+use Rattle.listing.proofs.Opens.{Open, All-good, left-cells, left-lines, push, after-later, after-tree, after-part, after-tree-good, after-part-good, part-inside, Spelt, Spelt-part, spelt, spelt-part, room, tree-next, part-next, none-left}
 use Rattle.listing.proofs.Lines.{own-is, below-is, below-small, other-kind, lines-tree, tree-lines, part-is, part-lines}
 
 -- Two words are noted, within the first m, for each cell that siblings still to be read begin with; i is the first such cell, counted from

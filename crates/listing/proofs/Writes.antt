@@ -2,12 +2,12 @@
 use mathlib.Core.Path.{_≡_, sym, ap, _∙_}
 use mathlib.Core.Bool.{Bool, true, false, cond}
 use mathlib.Core.List.{List, [], _∷_, _++_}
-use Prim.Native.Nat.{ℕ, zero, suc, _+_, _-_, _*_, _/_, _≤_, _<_}
+use Prim.Native.Nat.{ℕ, zero, suc, _+_, _-_, _*_, _≤_, _<_}
 use native.Mathlib.Omega.{arith}
 use native.Mathlib.Nat.{add-zero}
 use lib.ListN.{length, getD, take, drop, take-append-drop, length-append}
 use lib.Seq.{getD-take}
-use Rattle.tree.specs.Cells.{cell-width, cell-kind, cell-id, cell-position, cell-length, cell-next, part-at}
+use Rattle.tree.specs.Cells.{cell-kind, cell-id, cell-position, cell-length, cell-next, part-at}
 use Rattle.tree.specs.Calls.{list-cells}
 use Rattle.words.specs.Words.{put, front}
 use Rattle.words.proofs.Runs.{Fronted, fronted-none, fronted-length, fronted-next, fronted-all}

@@ -2,7 +2,7 @@
 // passes over the cells in order, no recursion; the records of a part are read where its cell stands.
 ghost use mathlib.Core.Path.{_≡_};
 ghost use mathlib.Core.Bool.{cond};
-ghost use mathlib.Core.List.{List, [], _∷_};
+ghost use mathlib.Core.List.{[], _∷_};
 ghost use Prim.Native.Nat.{_+_, _-_, _*_, _/_, _<_, _≤_};
 ghost use lib.ListN.{length, take};
 ghost use Rattle.tree.specs.Cells.{cell-width, cell-next};
@@ -128,7 +128,8 @@ fn put_part(
     let from = words::index(cells[i * CELL_WIDTH + FIRST]);
     let count = words::index(cells[i * CELL_WIDTH + COUNT]);
     let part = &words[from..from + count];
-    let start = base + cells[i * CELL_WIDTH + POSITION];
+    let position = cells[i * CELL_WIDTH + POSITION];
+    let start = base + position;
     part_lines::list_part(part, first_repeat, start, depth, work, stack, lines, at)
 }
 
@@ -151,7 +152,18 @@ fn put_lines(
     ensures { λ _. ⌜ take stack (now (work .exit)) ≡ take stack (now (work .entry)) ⌝ }
 {
     if cells[i * CELL_WIDTH + KIND] == 2 {
-        return put_part(cells, words, first_repeat, i, base, depth, work, stack, lines, at);
+        return put_part(
+            cells,
+            words,
+            first_repeat,
+            i,
+            base,
+            depth,
+            work,
+            stack,
+            lines,
+            at,
+        );
     }
     put_tree(cells, first_repeat, i, base, depth, lines, at)
 }
@@ -200,7 +212,18 @@ fn write_lines(
     while i < n {
         let base = work[i * 2];
         let depth = work[i * 2 + 1];
-        at = put_lines(cells, words, first_repeat, i, base, depth, work, stack, lines, at);
+        at = put_lines(
+            cells,
+            words,
+            first_repeat,
+            i,
+            base,
+            depth,
+            work,
+            stack,
+            lines,
+            at,
+        );
         note_links(cells, first_repeat, i, base, depth, work);
         i += 1;
     }

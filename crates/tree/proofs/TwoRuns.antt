@@ -1,7 +1,7 @@
 -- Demand 3. Two runs, each with its own type count, length bound, top id, given length and accepted list nested at most
 -- 2,503 levels, and with the same first repeat id F and build start S. By the theorem on trees and the laws of cells.
 -- Assumes nothing.
-use mathlib.Core.Path.{_≡_, sym, ap, ap₂, _∙_}
+use mathlib.Core.Path.{_≡_, sym, ap₂, _∙_}
 use mathlib.Core.Logic.{_↔_}
 use Prim.Native.Nat.{ℕ, _≤_}
 use Rattle.records.specs.Parse.{parse}
@@ -38,6 +38,9 @@ module _ (F S : ℕ) (fits : S ≤ 4294967295) where
       × ((read F S A ≡ read F S B → ⊥) → ((built F S A) .cells ≡ (built F S B) .cells) × ((built F S A) .words ≡ (built F S B) .words) → ⊥)
   two-runs A B f g =
       let one = one-run A f in
-      let two = one-run B g in
-      (one, two, (λ e. sym one ∙ (e ∙ two), λ e. one ∙ (e ∙ sym two)),
-       λ differ same. differ (sym (one-run A straight) ∙ (same-built A B (same .0) (same .1) ∙ one-run B straight)))
+      let two = one-run B g in (
+        one,
+        two,
+        (λ e. sym one ∙ (e ∙ two), λ e. one ∙ (e ∙ sym two)),
+        λ differ same. differ (sym (one-run A straight) ∙ (same-built A B (same .0) (same .1) ∙ one-run B straight)),
+      )

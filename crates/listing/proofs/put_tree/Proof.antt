@@ -2,7 +2,6 @@
 use denote.Ref.{now}
 use mathlib.Core.Path.{_≡_, sym, ap, _∙_}
 use mathlib.Core.Bool.{true, false}
-use mathlib.Core.List.{List}
 use native.Mathlib.Omega.{arith}
 use lib.ListN.{length}
 use Rattle.words.specs.Words.{put}
@@ -22,61 +21,10 @@ module _ (t : tie.Then1) where
   four : length (own-line (s₁ .args .first-repeat) (now (s₁ .args .cells)) (s₁ .args .i) (s₁ .args .base) (s₁ .args .depth)) ≡ 4
   four = four-words (s₁ .args .first-repeat) (now (s₁ .args .cells)) (s₁ .args .i) (s₁ .args .base) (s₁ .args .depth) hit
 
-is-listed-requires : tie.Need-is-listed-requires
-is-listed-requires c κs = search needs
-
-mul-start : tie.Need-mul-start
-mul-start c = search needs
-
-add-start : tie.Need-add-start
-add-start c = search needs
-
-mul-start-2 : tie.Need-mul-start-2
-mul-start-2 c = search needs
-
-shared-slice-read-start : tie.Need-shared-slice-read-start
-shared-slice-read-start c = search needs
-
-add-start-2 : tie.Need-add-start-2
-add-start-2 c = search needs
-
-mul-end : tie.Need-mul-end
-mul-end c = search needs
-
-add-end : tie.Need-add-end
-add-end c = search needs
-
-mul-end-2 : tie.Need-mul-end-2
-mul-end-2 c = search needs
-
-shared-slice-read-end : tie.Need-shared-slice-read-end
-shared-slice-read-end c = search needs
-
-add-end-2 : tie.Need-add-end-2
-add-end-2 c = search needs
-
-mul-put-line : tie.Need-mul-put-line
-mul-put-line c = search needs
-
-add-put-line : tie.Need-add-put-line
-add-put-line c = search needs
-
-mul-put-line-2 : tie.Need-mul-put-line-2
-mul-put-line-2 c = search needs
-
-shared-slice-read-put-line : tie.Need-shared-slice-read-put-line
-shared-slice-read-put-line c = search needs
-
 put-line-requires : tie.Need-put-line-requires
 put-line-requires c κs =
     let t = c .before .before .before .before in
     omega (arith, s₁ t .pre .fits, four t)
-
-add-result : tie.Need-add-result
-add-result c = search needs
-
-same-length : tie.Need-same-length
-same-length c = search needs
 
 returns : tie.Need-returns
 returns c =
@@ -96,23 +44,23 @@ pub put-tree-spec : {M : Type 1} → statement M
 put-tree-spec =
     tie.close
     (tie.spec
-    is-listed-requires
-    mul-start
-    add-start
-    mul-start-2
-    shared-slice-read-start
-    add-start-2
-    mul-end
-    add-end
-    mul-end-2
-    shared-slice-read-end
-    add-end-2
-    mul-put-line
-    add-put-line
-    mul-put-line-2
-    shared-slice-read-put-line
+    (λ c κs. search needs)
+    (λ c. search needs)
+    (λ c. search needs)
+    (λ c. search needs)
+    (λ c. search needs)
+    (λ c. search needs)
+    (λ c. search needs)
+    (λ c. search needs)
+    (λ c. search needs)
+    (λ c. search needs)
+    (λ c. search needs)
+    (λ c. search needs)
+    (λ c. search needs)
+    (λ c. search needs)
+    (λ c. search needs)
     put-line-requires
-    add-result
-    same-length
+    (λ c. search needs)
+    (λ c. search needs)
     returns
     returns-2)

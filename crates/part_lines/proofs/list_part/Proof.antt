@@ -2,7 +2,7 @@
 -- be written goes by the end indices that are held. Assumes nothing.
 use borrow.Author.Needs.{needs}
 use denote.Ref.{now}
-use mathlib.Core.Path.{_≡_, sym, ap, _∙_}
+use mathlib.Core.Path.{_≡_, ap, _∙_}
 use mathlib.Core.Logic.{⊎-elim}
 use mathlib.Core.List.{List}
 use Prim.Native.Nat.{ℕ, _+_, _-_, _*_, _≤_, _<_}
@@ -13,7 +13,7 @@ use Rattle.words.specs.Words.{id-of}
 use lib.Dec.{ltb}
 use mathlib.Core.Bool.{true}
 use Rattle.part_lines.specs.Steps.{Lent}
-use Rattle.part_lines.proofs.Walk.{Walk, walk-first, walk-end, out-length, still-held, walk-miss, line-fits, depth-fits, ranges-fit, end-fits, walk-hit}
+use Rattle.part_lines.proofs.Walk.{Walk, walk-first, walk-end, out-length, walk-miss, line-fits, depth-fits, ranges-fit, end-fits, walk-hit}
 use Rattle.part_lines.proofs.list_part.Statement.{statement}
 use Rattle.part_lines.proofs.list_part.Tie as tie
 
@@ -79,26 +79,11 @@ module _ (c : tie.Then1 Inv-loop μ-loop) where
   end-in₀ : s₁ o₁ .args .at + t₁ o₁ < length (work₀ o₁)
   end-in₀ = omega (arith, end-in, walk₁ o₁ .sized)
 
-mul-open-ends : tie.Need-mul-open-ends Inv-loop μ-loop
-mul-open-ends c = search needs
-
 open-ends-requires : tie.Need-open-ends-requires Inv-loop μ-loop
 open-ends-requires c κs =
     let s = c .before .before .before .before .before .before in
     let w = c .before .before .loop .inv (s .pre) in
     omega (arith, w .few, w .sized, s .pre .work-fits, c .before .loop-test .taken)
-
-mul-word : tie.Need-mul-word Inv-loop μ-loop
-mul-word c = search needs
-
-mul-word-2 : tie.Need-mul-word-2 Inv-loop μ-loop
-mul-word-2 c = search needs
-
-shared-slice-read-word : tie.Need-shared-slice-read-word Inv-loop μ-loop
-shared-slice-read-word c = search needs
-
-word-requires : tie.Need-word-requires Inv-loop μ-loop
-word-requires c κs = search needs
 
 cast-put-record : tie.Need-cast-put-record Inv-loop μ-loop
 cast-put-record c = omega (arith, depth-in c)
@@ -114,21 +99,6 @@ put-record-requires c κs =
       (ranges-fit (lines₀ o) (work₀ o) (lent₁ o) (walk₁ o) (t₁ o) (o .open-ends .ensures) (record-in o) hit, line-in (c .before)),
     )
 
-mul-word-3 : tie.Need-mul-word-3 Inv-loop μ-loop
-mul-word-3 c = search needs
-
-add-word : tie.Need-add-word Inv-loop μ-loop
-add-word c = search needs
-
-mul-word-4 : tie.Need-mul-word-4 Inv-loop μ-loop
-mul-word-4 c = search needs
-
-shared-slice-read-word-2 : tie.Need-shared-slice-read-word-2 Inv-loop μ-loop
-shared-slice-read-word-2 c = search needs
-
-word-requires-2 : tie.Need-word-requires-2 Inv-loop μ-loop
-word-requires-2 c κs = search needs
-
 add-work : tie.Need-add-work Inv-loop μ-loop
 add-work c = omega (arith, end-in₀ (c .before .before .before .before .before .before))
 
@@ -143,12 +113,6 @@ add-top c = omega (arith, end-in₀ (c .before .before .before .before .before .
 
 add-to : tie.Need-add-to Inv-loop μ-loop
 add-to c = omega (arith, line-in₀ (c .before .before .before .before .before .before))
-
-add-i : tie.Need-add-i Inv-loop μ-loop
-add-i c = search needs
-
-loop-less : tie.Need-loop-less Inv-loop μ-loop
-loop-less c = search needs
 
 loop-again : tie.Need-loop-again Inv-loop μ-loop
 loop-again c = λ lent.
@@ -184,27 +148,27 @@ list-part-spec =
     Inv-loop
     μ-loop
     loop-holds
-    mul-open-ends
+    (λ c. search needs)
     open-ends-requires
-    mul-word
-    mul-word-2
-    shared-slice-read-word
-    word-requires
+    (λ c. search needs)
+    (λ c. search needs)
+    (λ c. search needs)
+    (λ c κs. search needs)
     cast-put-record
     add-put-record
     put-record-requires
-    mul-word-3
-    add-word
-    mul-word-4
-    shared-slice-read-word-2
-    word-requires-2
+    (λ c. search needs)
+    (λ c. search needs)
+    (λ c. search needs)
+    (λ c. search needs)
+    (λ c κs. search needs)
     add-work
     mul-work
     slice-write-work
     add-top
     add-to
-    add-i
-    loop-less
+    (λ c. search needs)
+    (λ c. search needs)
     loop-again
     same-length
     same-length-2

@@ -3,54 +3,6 @@ use borrow.Author.Needs.{needs}
 use Rattle.part_lines.proofs.put_record.Statement.{statement}
 use Rattle.part_lines.proofs.put_record.Tie as tie
 
-mul-word : tie.Need-mul-word
-mul-word c = search needs
-
-mul-word-2 : tie.Need-mul-word-2
-mul-word-2 c = search needs
-
-shared-slice-read-word : tie.Need-shared-slice-read-word
-shared-slice-read-word c = search needs
-
-word-requires : tie.Need-word-requires
-word-requires c κs = search needs
-
-add-word : tie.Need-add-word
-add-word c = search needs
-
-mul-word-3 : tie.Need-mul-word-3
-mul-word-3 c = search needs
-
-shared-slice-read-word-2 : tie.Need-shared-slice-read-word-2
-shared-slice-read-word-2 c = search needs
-
-word-requires-2 : tie.Need-word-requires-2
-word-requires-2 c κs = search needs
-
-add-put-line : tie.Need-add-put-line
-add-put-line c = search needs
-
-add-word-2 : tie.Need-add-word-2
-add-word-2 c = search needs
-
-mul-word-4 : tie.Need-mul-word-4
-mul-word-4 c = search needs
-
-shared-slice-read-word-3 : tie.Need-shared-slice-read-word-3
-shared-slice-read-word-3 c = search needs
-
-word-requires-3 : tie.Need-word-requires-3
-word-requires-3 c κs = search needs
-
-add-put-line-2 : tie.Need-add-put-line-2
-add-put-line-2 c = search needs
-
-put-line-requires : tie.Need-put-line-requires
-put-line-requires c κs = search needs
-
-same-length : tie.Need-same-length
-same-length c = search needs
-
 returns : tie.Need-returns
 returns c =
     let put = c .before .before .put-line in
@@ -63,20 +15,20 @@ pub put-record-spec : {M : Type 1} → statement M
 put-record-spec =
     tie.close
     (tie.spec
-    mul-word
-    mul-word-2
-    shared-slice-read-word
-    word-requires
-    add-word
-    mul-word-3
-    shared-slice-read-word-2
-    word-requires-2
-    add-put-line
-    add-word-2
-    mul-word-4
-    shared-slice-read-word-3
-    word-requires-3
-    add-put-line-2
-    put-line-requires
-    same-length
+    (λ c. search needs)
+    (λ c. search needs)
+    (λ c. search needs)
+    (λ c κs. search needs)
+    (λ c. search needs)
+    (λ c. search needs)
+    (λ c. search needs)
+    (λ c κs. search needs)
+    (λ c. search needs)
+    (λ c. search needs)
+    (λ c. search needs)
+    (λ c. search needs)
+    (λ c κs. search needs)
+    (λ c. search needs)
+    (λ c κs. search needs)
+    (λ c. search needs)
     returns)
