@@ -3,7 +3,7 @@ use mathlib.Core.Path.{_≡_, refl}
 use mathlib.Core.Bool.{false}
 use mathlib.Core.List.{List, [], _∷_, _++_}
 use Prim.Native.Nat.{ℕ, zero, suc, _+_}
-use Rattle.words.specs.Outcome.{accepted, refused}
+use Rattle.words.specs.Outcome.{accepted, refused, Result}
 use Rattle.words.specs.First.{first-from}
 use Rattle.part.specs.Part.{part-check, faults-from, fault, own-fault, crosses}
 use Rattle.slicing.specs.Slice.{cut-check, rebased, largest-end, sliced, slice-outcome, slice-part}
@@ -64,21 +64,25 @@ slices : Slices
 unfolding first-from part-check faults-from fault own-fault crosses cut-check rebased largest-end sliced slice-outcome slice-part
 slices = (refl, refl, refl)
 
+-- what list gives with an output slice of 13 words: "0,3,0,6 / 1,1,0,2 / 1,2,3,5", and one word is left over
+abbrev pub three-lines : Result
+three-lines = record { outcome = accepted (3 ∷ []); outputs = (0 ∷ 3 ∷ 0 ∷ 6 ∷ 1 ∷ 1 ∷ 0 ∷ 2 ∷ 1 ∷ 2 ∷ 3 ∷ 5 ∷ 9 ∷ []) ∷ [] }
+
 -- "Each lists 0,3,0,6 / 1,1,0,2 / 1,2,3,5": materialise on the cells and words of each of the three builds writes the same four
--- cells, and list on these the three lines. The work slices have 96 × items + 96 words; one word of each output is left over.
+-- cells, and list on these the three lines; and list writes them straight from the cells and words of each build. The work slices have
+-- 96 × items + 96 words.
 abbrev pub Listings : Type 0
 Listings =
     (materialise-call 4 trees.cells-1024 trees.words-1024 576 (trees.nines 29) ≡ record { outcome = accepted (4 ∷ 0 ∷ []); outputs = (trees.cells-1 ++ (9 ∷ [])) ∷ [] })
     × (materialise-call 4 trees.cells-5 trees.words-5 576 (trees.nines 29) ≡ record { outcome = accepted (4 ∷ 0 ∷ []); outputs = (trees.cells-1 ++ (9 ∷ [])) ∷ [] })
     × (materialise-call 4 trees.cells-1 [] 480 (trees.nines 29) ≡ record { outcome = accepted (4 ∷ 0 ∷ []); outputs = (trees.cells-1 ++ (9 ∷ [])) ∷ [] })
-    × (list-call 4 4 0 trees.cells-1 480 (trees.nines 13) ≡ record {
-      outcome = accepted (3 ∷ []);
-      outputs = (0 ∷ 3 ∷ 0 ∷ 6 ∷ 1 ∷ 1 ∷ 0 ∷ 2 ∷ 1 ∷ 2 ∷ 3 ∷ 5 ∷ 9 ∷ []) ∷ [];
-    })
+    × (list-call 4 4 0 trees.cells-1 [] 480 (trees.nines 13) ≡ three-lines)
+    × (list-call 4 4 0 trees.cells-5 trees.words-5 576 (trees.nines 13) ≡ three-lines)
+    × (list-call 4 4 0 trees.cells-1024 trees.words-1024 576 (trees.nines 13) ≡ three-lines)
 
 listings : Listings
 unfolding trees.nines materialise-call list-call items unless-bad result-room tree-room lines-room handed-in bad-cell cells-of first-child chain chains any-part named top-broken kind-broken id-broken link-broken count-broken place-broken order-broken inside-broken end-broken part-broken stray-broken any-of broken next-named first-named words-end lowest-from top-named part-kept ranges bound earliest still part-check faults-from fault own-fault crosses _⊕_ nodes siblings kids-of within beyond unpack materialise node-line node-below listing lines line depth-below relative absolute packed unless-none kind id-word cells leading following cell-tree decode-from decode tree-cells materialise-cells list-cells
-listings = (refl, refl, refl, refl)
+listings = (refl, refl, refl, refl, refl, refl)
 
 -- The cells of n leaf trees of id 1 and length 1, one after the other from the position s on; the first is cell c.
 unfoldable pub leaf-cells : (n c s : ℕ) → List ℕ
