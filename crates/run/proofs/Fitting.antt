@@ -1,24 +1,20 @@
--- What an accepted call counts stands in the slices it was lent. Assumes nothing.
+-- What an accepted build counts stands in the slices it was lent. Assumes nothing.
 use mathlib.Core.Path.{_≡_, refl, sym, ap, _∙_}
-use mathlib.Core.Bool.{Bool, true}
 use mathlib.Core.List.{List, [], _∷_}
-use mathlib.Core.Option.{Option, none, some}
+use mathlib.Core.Option.{Option}
 use Prim.Native.Nat.{ℕ, _*_, _≤_}
 use native.Mathlib.Omega.{arith}
 use borrow.Author.Tests.{ltb-false}
 use lib.Dec.{ltb}
 use lib.ListN.{length, getD}
-use Rattle.words.specs.Outcome.{Outcome, accepted, refused, unless-refused, unless-found, counts-of, Result, settled}
+use Rattle.words.specs.Outcome.{Outcome, accepted, refused, unless-refused, counts-of, Result, settled}
 use Rattle.words.proofs.Outcomes.{never, passed}
 use Rattle.records.specs.Check.{check}
 use Rattle.records.specs.Parse.{parse}
 use Rattle.tree.specs.Trees.{nodes}
 use Rattle.tree.specs.Build.{build}
-use Rattle.tree.specs.Materialise.{materialise}
 use Rattle.tree.specs.Cells.{cell-width}
 use Rattle.tree.specs.Calls.{written, room, build-call}
-use Rattle.rules.specs.Lowest.{bad-cell}
-use Rattle.rules.specs.Calls.{unless-bad, result-room, handed-in, materialise-call}
 
 outcome-settled : (o : Outcome) (after before : List (List ℕ)) → (settled o after before) .outcome ≡ o
 outcome-settled (accepted counts) after before = refl
@@ -27,10 +23,6 @@ outcome-settled (refused number place) after before = refl
 later-accepted : (o next : Outcome) (counts : List ℕ) → unless-refused o next ≡ accepted counts → next ≡ accepted counts
 later-accepted (accepted more) next counts h = h
 later-accepted (refused number place) next counts h = absurd (never number place counts h)
-
-none-accepted : (found : Option ℕ) (next : Outcome) (counts : List ℕ) → unless-found 15 (λ c. c) found next ≡ accepted counts → next ≡ accepted counts
-none-accepted none next counts h = h
-none-accepted (some i) next counts h = absurd (never 15 i counts h)
 
 count-is : (i : ℕ) (a b : List ℕ) → accepted a ≡ accepted b → getD a i 0 ≡ getD b i 0
 count-is i a b e = ap (λ (o : Outcome). getD (counts-of o) i 0) e
@@ -46,23 +38,6 @@ room-fits k w cells words n m h =
     let d = ltb-false words w (two .0) in
     (omega arith, omega arith)
 
-result-fits : (k cells n m : ℕ) → result-room k 0 cells 0 ≡ accepted (n ∷ m ∷ []) → cell-width * n ≤ cells
-unfolding result-room room
-result-fits k cells n m h =
-    let one = passed (ltb 4294967295 k) 12 0 _ _ h in
-    let two = passed (ltb cells (cell-width * k)) 12 0 _ _ (one .1) in
-    let three = passed (ltb 0 0) 13 0 _ _ (two .1) in
-    let a : k ≡ n = count-is 0 (k ∷ 0 ∷ []) (n ∷ m ∷ []) (three .1) in
-    let c = ltb-false cells (cell-width * k) (two .0) in
-    omega arith
-
-next-accepted : (T S : ℕ) (parts : Bool) (cs ws : List ℕ) (work : ℕ) (next : Outcome) (counts : List ℕ) → unless-bad T S parts cs ws work next ≡ accepted counts → next ≡ accepted counts
-unfolding unless-bad
-next-accepted T S parts cs ws work next counts h =
-    let one = passed (ltb 65536 T) 1 0 _ _ h in
-    let two = passed (ltb work _) 11 0 _ _ (one .1) in
-    none-accepted (bad-cell T S parts cs ws) next counts (two .1)
-
 pub build-fits : (T F b S top : ℕ) (given : Option ℕ) (work : ℕ) (records cells words : List ℕ) (x : Result) (n m : ℕ)
     → x ≡ build-call T F b S top given work records cells words → x .outcome ≡ accepted (n ∷ m ∷ []) → (cell-width * n ≤ length cells) × (m ≤ length words)
 unfolding build-call
@@ -71,12 +46,3 @@ build-fits T F b S top given work records cells words x n m e h =
     let o = unless-refused (check T b top S work records) (room (nodes t) (length ((written S t) .words)) (length cells) (length words)) in
     let is : o ≡ accepted (n ∷ m ∷ []) = sym (outcome-settled o _ _) ∙ (ap (λ (r : Result). r .outcome) (sym e) ∙ h) in
     room-fits (nodes t) (length ((written S t) .words)) (length cells) (length words) n m (later-accepted (check T b top S work records) _ _ is)
-
-pub materialise-fits : (T : ℕ) (cs ws : List ℕ) (work : ℕ) (out : List ℕ) (x : Result) (n m : ℕ)
-    → x ≡ materialise-call T cs ws work out → x .outcome ≡ accepted (n ∷ m ∷ []) → cell-width * n ≤ length out
-unfolding materialise-call
-materialise-fits T cs ws work out x n m e h =
-    let k = nodes (materialise (handed-in cs ws)) in
-    let o = unless-bad T 0 true cs ws work (result-room k 0 (length out) 0) in
-    let is : o ≡ accepted (n ∷ m ∷ []) = sym (outcome-settled o _ _) ∙ (ap (λ (r : Result). r .outcome) (sym e) ∙ h) in
-    result-fits k (length out) n m (next-accepted T 0 true cs ws work _ _ is)

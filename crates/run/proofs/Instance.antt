@@ -1,5 +1,5 @@
--- Demand 3 at document 01's list P, so that its conditions are seen to be met: one run with the length bound 1,024, which packs P, one
--- with 1, which does not, each lent just what 11 to 14 ask and each call with a work slice of its own length. Assumes nothing.
+-- Demand 3 at document 01's list P, so that its conditions are seen to be met: with the length bound 1,024, which packs P, and with 1, which
+-- does not, each in both forms of a run, lent just what 11 to 14 ask and each call with a work slice of its own length. Assumes nothing.
 use mathlib.Core.Path.{_≡_, refl, ap, _∙_}
 use mathlib.Core.List.{List, []}
 use mathlib.Core.Option.{none}
@@ -23,8 +23,8 @@ use Rattle.tree.specs.Calls.{Written, written, build-cells, materialise-cells}
 use Rattle.tree.specs.Run.{Run, built, materialised, read}
 use Rattle.tree.proofs.Table.{P, cells-1024, words-1024, cells-1, lines-P, nines}
 use Rattle.rules.specs.Calls.{items}
-use Rattle.run.specs.Running.{run-lines}
-use Rattle.run.specs.Lent.{Lent, Lent-run, ran}
+use Rattle.run.specs.Running.{Works, run-lines}
+use Rattle.run.specs.Lent.{Lent, Lent-materialising, Lent-run, straight, materialising, ran}
 use Rattle.run.proofs.TwoRuns.{two-runs}
 
 pub accepted-1024 : Accepted 4 1024 0 0 P
@@ -71,10 +71,46 @@ materialised-1 : materialised 4 0 run-1 ≡ cells-1
 unfolding materialised materialise-cells materialise within beyond unpack decode decode-from cell-tree leading following tree-cells cells kind id-word unless-none relative absolute nodes siblings _⊕_
 materialised-1 = ap (λ (w : Written). materialise-cells (w .cells) (w .words)) built-1
 
--- Three records, two cells and twelve packed words, four cells: 384, 576 and 480 words of work.
-pub lent-1024 : Lent 4 0 run-1024 (record { build = 384; materialise = 576; list = 480 }) (nines 14) (nines 12) (nines 28) (nines 12)
+-- The work of each call. Packed: three records, then two cells and twelve packed words, which are five items, then four cells. Not packed:
+-- three records, then four cells each time. No work for materialise where it is not called.
+abbrev pub works-1024 : Works
+works-1024 = record { build = 384; materialise = 0; list = 576 }
+
+abbrev pub works-1 : Works
+works-1 = record { build = 384; materialise = 0; list = 480 }
+
+abbrev pub works-1024-materialising : Works
+works-1024-materialising = record { build = 384; materialise = 576; list = 480 }
+
+abbrev pub works-1-materialising : Works
+works-1-materialising = record { build = 384; materialise = 480; list = 480 }
+
+pub lent-1024 : Lent 4 0 run-1024 works-1024 (nines 14) (nines 12) (nines 12)
 unfolding items nines
 lent-1024 =
+    record {
+      build-work = omega arith;
+      list-work = omega (arith, ap (λ (w : Written). items (w .cells) (w .words)) built-1024);
+      cells-space = omega (arith, ap (λ (w : Written). length (w .cells)) built-1024);
+      words-space = omega (arith, ap (λ (w : Written). length (w .words)) built-1024);
+      lines-space = omega (arith, ap (λ (l : List ℕ). length l) read-1024);
+    }
+
+-- and no space for packed words
+pub lent-1 : Lent 4 0 run-1 works-1 (nines 28) [] (nines 12)
+unfolding items nines
+lent-1 =
+    record {
+      build-work = omega arith;
+      list-work = omega (arith, ap (λ (w : Written). items (w .cells) (w .words)) built-1);
+      cells-space = omega (arith, ap (λ (w : Written). length (w .cells)) built-1);
+      words-space = omega (arith, ap (λ (w : Written). length (w .words)) built-1);
+      lines-space = omega (arith, ap (λ (l : List ℕ). length l) read-1);
+    }
+
+pub lent-1024-materialising : Lent-materialising 4 0 run-1024 works-1024-materialising (nines 14) (nines 12) (nines 28) (nines 12)
+unfolding items nines
+lent-1024-materialising =
     record {
       build-work = omega arith;
       materialise-work = omega (arith, ap (λ (w : Written). items (w .cells) (w .words)) built-1024);
@@ -85,10 +121,9 @@ lent-1024 =
       lines-space = omega (arith, ap (λ (l : List ℕ). length l) read-1024);
     }
 
--- Three records, four cells, four cells: 384, 480 and 480 words of work, and no space for packed words.
-pub lent-1 : Lent 4 0 run-1 (record { build = 384; materialise = 480; list = 480 }) (nines 28) [] (nines 28) (nines 12)
+pub lent-1-materialising : Lent-materialising 4 0 run-1 works-1-materialising (nines 28) [] (nines 28) (nines 12)
 unfolding items nines
-lent-1 =
+lent-1-materialising =
     record {
       build-work = omega arith;
       materialise-work = omega (arith, ap (λ (w : Written). items (w .cells) (w .words)) built-1);
@@ -99,12 +134,25 @@ lent-1 =
       lines-space = omega (arith, ap (λ (l : List ℕ). length l) read-1);
     }
 
-abbrev pub packing : Lent-run 4 0
-packing = record { run = run-1024; works = record { build = 384; materialise = 576; list = 480 }; cells = nines 14; words = nines 12; trees = nines 28; lines = nines 12; lent = lent-1024 }
+abbrev pub packed-straight : Lent-run 4 0
+packed-straight = straight run-1024 works-1024 (nines 14) (nines 12) (nines 12) lent-1024
 
-abbrev pub unpacked : Lent-run 4 0
-unpacked = record { run = run-1; works = record { build = 384; materialise = 480; list = 480 }; cells = nines 28; words = []; trees = nines 28; lines = nines 12; lent = lent-1 }
+abbrev pub unpacked-straight : Lent-run 4 0
+unpacked-straight = straight run-1 works-1 (nines 28) [] (nines 12) lent-1
 
--- Neither run is refused, and both list "0,3,0,6 / 1,1,0,2 / 1,2,3,5".
-pub P-twice : (number-of ((ran 4 0 packing) .outcome) ≡ 0) × (number-of ((ran 4 0 unpacked) .outcome) ≡ 0) × (run-lines (ran 4 0 packing) ≡ lines-P) × (run-lines (ran 4 0 unpacked) ≡ lines-P)
-P-twice = let both = two-runs 4 0 (omega arith) packing unpacked in (both .0, both .1, both .2 ∙ read-1024, both .3 ∙ read-1)
+abbrev pub packed-materialised : Lent-run 4 0
+packed-materialised = materialising run-1024 works-1024-materialising (nines 14) (nines 12) (nines 28) (nines 12) lent-1024-materialising
+
+abbrev pub unpacked-materialised : Lent-run 4 0
+unpacked-materialised = materialising run-1 works-1-materialising (nines 28) [] (nines 28) (nines 12) lent-1-materialising
+
+-- none of its calls is refused, and it lists "0,3,0,6 / 1,1,0,2 / 1,2,3,5"
+abbrev pub Lists-P : Lent-run 4 0 → Type 0
+Lists-P a = (number-of ((ran 4 0 a) .outcome) ≡ 0) × (run-lines (ran 4 0 a) ≡ lines-P)
+
+-- two runs in different forms, with each bound in each
+pub P-twice : Lists-P packed-straight × Lists-P unpacked-materialised × Lists-P unpacked-straight × Lists-P packed-materialised
+P-twice =
+    let one = two-runs 4 0 (omega arith) packed-straight unpacked-materialised in
+    let two = two-runs 4 0 (omega arith) unpacked-straight packed-materialised in
+    ((one .0, one .2 ∙ read-1024), (one .1, one .3 ∙ read-1), (two .0, two .2 ∙ read-1), (two .1, two .3 ∙ read-1024))

@@ -1,10 +1,11 @@
--- A run by its calls: "a build, materialise on the cells and words it wrote, then listing on the cells that materialise wrote, with
--- one T, F and S throughout". The calls are those that `build`, `materialize` and `list` are proved to make.
+-- A run by its calls, in its two forms: a build, then listing on the cells and words it wrote, which is what `run` is proved to make; and
+-- document 01's "a build, materialise on the cells and words it wrote, then listing on the cells that materialise wrote". Both "with one T,
+-- F and S throughout". The calls are those that `build`, `materialize` and `list` are proved to make.
 use mathlib.Core.List.{List, [], _∷_, _++_}
 use mathlib.Core.Option.{Option}
-use Prim.Native.Nat.{ℕ, suc, _*_}
-use lib.ListN.{getD, take}
-use Rattle.words.specs.Outcome.{Outcome, accepted, refused, counts-of}
+use Prim.Native.Nat.{ℕ, suc, _-_, _*_}
+use lib.ListN.{length, getD, take}
+use Rattle.words.specs.Outcome.{Outcome, accepted, refused, counts-of, Result}
 use Rattle.tree.specs.Cells.{cell-width}
 use Rattle.tree.specs.Calls.{build-call}
 use Rattle.tree.specs.Listing.{line-width}
@@ -17,13 +18,13 @@ pub record Steps : Type 0 where
   pub calls : ℕ
   pub outputs : List (List ℕ)
 
--- the length of each call's work slice
+-- the length of each call's work slice; a run that does not materialise has no use for the second
 pub record Works : Type 0 where
   pub build : ℕ
   pub materialise : ℕ
   pub list : ℕ
 
--- one work slice for all three calls
+-- one work slice for all calls
 abbrev pub one-work : ℕ → Works
 one-work n = record { build = n; materialise = n; list = n }
 
@@ -48,33 +49,47 @@ count-at o i = getD (counts-of o) i 0
 abbrev pub output-at : List (List ℕ) → ℕ → List ℕ
 output-at outputs i = getD outputs i []
 
+-- "the cells and words it wrote": the counted fronts of the first two outputs, of a call or of a run, which begins with the build
+abbrev pub cells-written : Outcome → List (List ℕ) → List ℕ
+cells-written o outputs = take (cell-width * count-at o 0) (output-at outputs 0)
+
+abbrev pub words-written : Outcome → List (List ℕ) → List ℕ
+words-written o outputs = take (count-at o 1) (output-at outputs 1)
+
+-- the build, then the calls `rest` on what it wrote
+abbrev pub on-built : Result → (rest : (cs ws : List ℕ) → Steps) (before : List (List ℕ)) → Steps
+on-built r rest before = followed (r .outcome) (r .outputs) (rest (cells-written (r .outcome) (r .outputs)) (words-written (r .outcome) (r .outputs))) before
+
 -- listing, the last call
-unfoldable pub list-steps : (T F S : ℕ) (cs : List ℕ) (work : ℕ) (lines : List ℕ) → Steps
-list-steps T F S cs work lines =
-    let r = list-call T F S cs work lines in
+unfoldable pub list-steps : (T F S : ℕ) (cs ws : List ℕ) (work : ℕ) (lines : List ℕ) → Steps
+list-steps T F S cs ws work lines =
+    let r = list-call T F S cs ws work lines in
     followed (r .outcome) (r .outputs) none-left []
 
--- materialise, then listing "on the cells that materialise wrote": the counted front of its output
-unfoldable pub read-call : (T F S : ℕ) (cs ws : List ℕ) (works : Works) (trees lines : List ℕ) → Steps
-read-call T F S cs ws works trees lines =
+-- materialise, then listing "on the cells that materialise wrote", the counted front of its output, with no packed words
+unfoldable pub materialise-steps : (T F S : ℕ) (cs ws : List ℕ) (works : Works) (trees lines : List ℕ) → Steps
+materialise-steps T F S cs ws works trees lines =
     let r = materialise-call T cs ws (works .materialise) trees in
-    followed (r .outcome) (r .outputs) (list-steps T F S (take (cell-width * count-at (r .outcome) 0) (output-at (r .outputs) 0)) (works .list) lines) (lines ∷ [])
+    followed (r .outcome) (r .outputs) (list-steps T F S (cells-written (r .outcome) (r .outputs)) [] (works .list) lines) (lines ∷ [])
 
--- the build, then materialise "on the cells and words it wrote" and listing: the counted fronts of its outputs
-unfoldable pub run-call : (T F b S top : ℕ) (given : Option ℕ) (works : Works) (records cells words trees lines : List ℕ) → Steps
-run-call T F b S top given works records cells words trees lines =
-    let r = build-call T F b S top given (works .build) records cells words in
-    let cs = take (cell-width * count-at (r .outcome) 0) (output-at (r .outputs) 0) in
-    let ws = take (count-at (r .outcome) 1) (output-at (r .outputs) 1) in
-    followed (r .outcome) (r .outputs) (read-call T F S cs ws works trees lines) (trees ∷ lines ∷ [])
+-- The run that `run` makes: build and list. Its counts are cells, packed words, lines.
+unfoldable pub run-call : (T F b S top : ℕ) (given : Option ℕ) (works : Works) (records cells words lines : List ℕ) → Steps
+run-call T F b S top given works records cells words lines =
+    on-built (build-call T F b S top given (works .build) records cells words)
+    (λ cs ws. list-steps T F S cs ws (works .list) lines) (lines ∷ [])
 
--- What an accepted run wrote, the counted front of each output: the cells and packed words of the build, and the lines. The counts are
--- cells and words of the build, cells and words of materialise, lines.
+-- Document 01's run: build, materialise and list. Its counts are cells and words of the build, cells and words of materialise, lines.
+unfoldable pub materialising-call : (T F b S top : ℕ) (given : Option ℕ) (works : Works) (records cells words trees lines : List ℕ) → Steps
+materialising-call T F b S top given works records cells words trees lines =
+    on-built (build-call T F b S top given (works .build) records cells words)
+    (λ cs ws. materialise-steps T F S cs ws works trees lines) (trees ∷ lines ∷ [])
+
+-- What an accepted run wrote, in either form: the cells and packed words of the build, and the lines, which are counted and written last.
 abbrev pub run-cells : Steps → List ℕ
-run-cells s = take (cell-width * count-at (s .outcome) 0) (output-at (s .outputs) 0)
+run-cells s = cells-written (s .outcome) (s .outputs)
 
 abbrev pub run-words : Steps → List ℕ
-run-words s = take (count-at (s .outcome) 1) (output-at (s .outputs) 1)
+run-words s = words-written (s .outcome) (s .outputs)
 
 abbrev pub run-lines : Steps → List ℕ
-run-lines s = take (line-width * count-at (s .outcome) 4) (output-at (s .outputs) 3)
+run-lines s = take (line-width * count-at (s .outcome) (length (counts-of (s .outcome)) - 1)) (output-at (s .outputs) (length (s .outputs) - 1))

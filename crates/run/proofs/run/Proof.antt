@@ -1,4 +1,4 @@
--- `run::run` meets its contract: the build is refused, or what it wrote is read back. Assumes nothing.
+-- `run::run` meets its contract: the build is refused, or listing answers on what it wrote. Assumes nothing.
 use mathlib.Core.Path.{_≡_, sym, ap}
 use mathlib.Core.List.{List, [], _∷_}
 use Prim.Native.Nat.{ℕ, _*_, _≤_}
@@ -6,11 +6,15 @@ use native.Mathlib.Omega.{arith}
 use lib.ListN.{length}
 use lib.Seq.{length-take-le}
 use denote.Ref.{now}
+use Rattle.words.specs.Outcome.{accepted}
 use Rattle.build.specs.Answer.{given-length, built-outcome}
 use Rattle.build.specs.declared.Built.the-variants as Built
-use Rattle.run.specs.declared.Read.the-variants as Read
+use Rattle.listing.specs.Answer.{listed-outcome}
+use Rattle.listing.specs.declared.Listed.{Listed}
+use Rattle.listing.specs.declared.Listed.the-variants as Listed
+use Rattle.run.specs.Running.{none-left, followed, one-work, run-call}
 use Rattle.run.proofs.Fitting.{build-fits}
-use Rattle.run.proofs.Stepping.{result, run-refused, run-read}
+use Rattle.run.proofs.Stepping.{result, run-refused, run-listed}
 use borrow.Author.Needs.{needs}
 use Rattle.tree.specs.Cells.{cell-width}
 use Rattle.run.proofs.run.Statement.{statement}
@@ -19,7 +23,7 @@ use Rattle.run.proofs.run.Tie as tie
 -- the answer of the build
 module _ (b : tie.After-build) where
   abbrev z₁ : tie.Start
-  z₁ = b .before .before .before .before .before .before .before .before .before .before
+  z₁ = b .before .before .before .before .before .before .before .before .before
 
   abbrev cells₁ : List ℕ
   cells₁ = b .build .last .1 .1 .1 .1 .1 .1 .1 .1 .0
@@ -55,35 +59,39 @@ slice-reshare-prefix-parts c = (fits-at (c .before .before .before .before .befo
 slice-aggregate-parts : tie.Need-slice-aggregate-parts
 slice-aggregate-parts c = sym (length-take-le (c .before .before .before .count .given .0 .1 .0) (words₁ (c .before .before .before .before .before .before .before .before .before .before .before)) ((fits-at (c .before .before .before .before .before .before .before .before .before .before .before) (c .before .before .before .count .given .0 .0) (c .before .before .before .count .given .0 .1 .0) (c .before .before .before .count .given .1)) .1))
 
+-- the answer of listing
+module _ (l : tie.After-list) where
+  abbrev b₁ : tie.After-build
+  b₁ = l .before .before .before .before .before .before .before .before .before .before .before .before .before .before
+
+  abbrev n₁ : ℕ
+  n₁ = l .before .before .before .before .before .before .count .given .0 .0
+
+  abbrev m₁ : ℕ
+  m₁ = l .before .before .before .before .before .before .count .given .0 .1 .0
+
+  abbrev lines₁ : List ℕ
+  lines₁ = l .list .last .1 .1 .1 .1 .1 .1 .0
+
+  -- the counts of the build, then what listing gives
+  listed-at : (v : Listed) → l .list .result ≡ v
+      → followed (accepted (n₁ ∷ m₁ ∷ [])) (cells₁ b₁ ∷ words₁ b₁ ∷ []) (followed (listed-outcome v) (lines₁ ∷ []) none-left []) (now (z₁ b₁ .args .lines) ∷ [])
+      ≡ run-call (z₁ b₁ .args .types) (z₁ b₁ .args .first-repeat) (z₁ b₁ .args .bound) (z₁ b₁ .args .start) (z₁ b₁ .args .top) (given-length (z₁ b₁ .args .given)) (one-work (length (now (z₁ b₁ .args .work)))) (now (z₁ b₁ .args .records)) (now (z₁ b₁ .args .cells)) (now (z₁ b₁ .args .words)) (now (z₁ b₁ .args .lines))
+  listed-at =
+      let a = z₁ b₁ .args in
+      run-listed (a .types) (a .first-repeat) (a .bound) (a .start) (a .top) (given-length (a .given)) (length (now (a .work))) (now (a .records)) (now (a .cells)) (now (a .words)) (now (a .lines)) (b₁ .build .result) (cells₁ b₁) (words₁ b₁) (b₁ .build .ensures) n₁ m₁ (l .before .before .before .before .before .before .count .given .1) (work₁ b₁) (same-work b₁) (l .list .result) lines₁ (l .list .ensures)
+
 returns : tie.Need-returns
 returns c =
     let b = c .before .before .before .before .before .before .before .before .before in
     let a = z₁ b .args in
-    run-refused (a .types) (a .first-repeat) (a .bound) (a .start) (a .top) (given-length (a .given)) (length (now (a .work))) (now (a .records)) (now (a .cells)) (now (a .words)) (now (a .trees)) (now (a .lines)) (b .build .result) (cells₁ b) (words₁ b) (b .build .ensures) (c .before .number .given .0 .0) (c .before .number .given .0 .1 .0) (c .before .number .given .1)
+    run-refused (a .types) (a .first-repeat) (a .bound) (a .start) (a .top) (given-length (a .given)) (length (now (a .work))) (now (a .records)) (now (a .cells)) (now (a .words)) (now (a .lines)) (b .build .result) (cells₁ b) (words₁ b) (b .build .ensures) (c .before .number .given .0 .0) (c .before .number .given .0 .1 .0) (c .before .number .given .1)
 
 returns-2 : tie.Need-returns-2
-returns-2 c =
-    let b = c .before .before .before .before .before .before .before .before .before .before .before .before .before .before .before .before .before .before .before .before .before .before .before .before in
-    let a = z₁ b .args in
-    let k = c .before .before .before .before .before .before .before .before .before .read-back in
-    run-read (a .types) (a .first-repeat) (a .bound) (a .start) (a .top) (given-length (a .given)) (length (now (a .work))) (now (a .records)) (now (a .cells)) (now (a .words)) (now (a .trees)) (now (a .lines)) (b .build .result) (cells₁ b) (words₁ b) (b .build .ensures) (c .before .before .before .before .before .before .before .before .before .before .before .before .before .before .before .before .count .given .0 .0) (c .before .before .before .before .before .before .before .before .before .before .before .before .before .before .before .before .count .given .0 .1 .0) (c .before .before .before .before .before .before .before .before .before .before .before .before .before .before .before .before .count .given .1)
-    (work₁ b) (same-work b) (k .result) (k .last .1 .1 .1 .1 .1 .1 .0) (k .last .1 .1 .1 .1 .1 .1 .1 .0) (k .ensures) (Read.NotMaterialised (c .before .number2 .given .0 .0) (c .before .number2 .given .0 .1 .0)) (c .before .number2 .given .1)
+returns-2 c = listed-at (c .before .before .before .before .before .before .before) (Listed.Refused (c .before .number2 .given .0 .0) (c .before .number2 .given .0 .1 .0)) (c .before .number2 .given .1)
 
 returns-3 : tie.Need-returns-3
-returns-3 c =
-    let b = c .before .before .before .before .before .before .before .before .before .before .before .before .before .before .before .before .before .before .before .before .before .before .before .before in
-    let a = z₁ b .args in
-    let k = c .before .before .before .before .before .before .before .before .before .read-back in
-    run-read (a .types) (a .first-repeat) (a .bound) (a .start) (a .top) (given-length (a .given)) (length (now (a .work))) (now (a .records)) (now (a .cells)) (now (a .words)) (now (a .trees)) (now (a .lines)) (b .build .result) (cells₁ b) (words₁ b) (b .build .ensures) (c .before .before .before .before .before .before .before .before .before .before .before .before .before .before .before .before .count .given .0 .0) (c .before .before .before .before .before .before .before .before .before .before .before .before .before .before .before .before .count .given .0 .1 .0) (c .before .before .before .before .before .before .before .before .before .before .before .before .before .before .before .before .count .given .1)
-    (work₁ b) (same-work b) (k .result) (k .last .1 .1 .1 .1 .1 .1 .0) (k .last .1 .1 .1 .1 .1 .1 .1 .0) (k .ensures) (Read.NotListed (c .before .number3 .given .0 .0) (c .before .number3 .given .0 .1 .0)) (c .before .number3 .given .1)
-
-returns-4 : tie.Need-returns-4
-returns-4 c =
-    let b = c .before .before .before .before .before .before .before .before .before .before .before .before .before .before .before .before .before .before .before .before .before .before .before .before in
-    let a = z₁ b .args in
-    let k = c .before .before .before .before .before .before .before .before .before .read-back in
-    run-read (a .types) (a .first-repeat) (a .bound) (a .start) (a .top) (given-length (a .given)) (length (now (a .work))) (now (a .records)) (now (a .cells)) (now (a .words)) (now (a .trees)) (now (a .lines)) (b .build .result) (cells₁ b) (words₁ b) (b .build .ensures) (c .before .before .before .before .before .before .before .before .before .before .before .before .before .before .before .before .count .given .0 .0) (c .before .before .before .before .before .before .before .before .before .before .before .before .before .before .before .before .count .given .0 .1 .0) (c .before .before .before .before .before .before .before .before .before .before .before .before .before .before .before .before .count .given .1)
-    (work₁ b) (same-work b) (k .result) (k .last .1 .1 .1 .1 .1 .1 .0) (k .last .1 .1 .1 .1 .1 .1 .1 .0) (k .ensures) (Read.Lines (c .before .made .given .0 .0) (c .before .made .given .0 .1 .0)) (c .before .made .given .1)
+returns-3 c = listed-at (c .before .before .before .before .before .before .before) (Listed.Lines (c .before .written .given .0 .0)) (c .before .written .given .1)
 
 pub run-spec : {M : Type 1} → statement M
 run-spec =
@@ -103,9 +111,7 @@ run-spec =
     (λ c. search needs)
     (λ c. search needs)
     (λ c. search needs)
-    (λ c. search needs)
     returns
-    (λ c. search needs)
     (λ c. search needs)
     (λ c. search needs)
     (λ c. search needs)
@@ -115,11 +121,4 @@ run-spec =
     (λ c. search needs)
     (λ c. search needs)
     (λ c. search needs)
-    (λ c. search needs)
-    returns-3
-    (λ c. search needs)
-    (λ c. search needs)
-    (λ c. search needs)
-    (λ c. search needs)
-    (λ c. search needs)
-    returns-4)
+    returns-3)
