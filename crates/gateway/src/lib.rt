@@ -182,20 +182,21 @@ pub extern "C" fn hulwyth_balance(
     }
 }
 
-// The call list of document 01; the count is that of the lines.
+// The call list of document 01, on a tree with packed parts; the count is that of the lines.
 #[no_mangle]
 pub extern "C" fn hulwyth_list(
     types: u32,
     first_repeat: u32,
     start: u32,
     cells: &[u32],
+    words: &[u16],
     work: &mut [u32],
     lines: &mut [u32],
     info: &mut [u32],
 ) -> u32
-    ensures { λ r. ⌜ record { number = r; info = now (info .exit); outputs = now (lines .exit) ∷ [] } ≡ told-result 2 (list-call types «first_repeat» start (now (cells .entry)) (length (now (work .entry))) (now (lines .entry))) (now (info .entry)) ⌝ }
+    ensures { λ r. ⌜ record { number = r; info = now (info .exit); outputs = now (lines .exit) ∷ [] } ≡ told-result 2 (list-call types «first_repeat» start (now (cells .entry)) (now (words .entry)) (length (now (work .entry))) (now (lines .entry))) (now (info .entry)) ⌝ }
 {
-    let answer = listing::list(types, first_repeat, start, cells, work, lines);
+    let answer = listing::list(types, first_repeat, start, cells, words, work, lines);
     match answer {
         listing::Listed::Lines(count) => {
             tell(info, &[0, count, 0]);

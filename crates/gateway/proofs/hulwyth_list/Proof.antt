@@ -15,10 +15,10 @@ use Rattle.gateway.proofs.hulwyth_list.Tie as tie
 -- the answer with the outputs beside it is the result of the definition
 module _ (a : tie.After-list) where
   abbrev s₁ : tie.Start
-  s₁ = a .before .before .before .before .before .before .before
+  s₁ = a .before .before .before .before .before .before .before .before
 
-  answered-at : (v : Listed) → a .list .result ≡ v → record { outcome = listed-outcome v; outputs = a .list .last .1 .1 .1 .1 .1 .0 ∷ [] } ≡ list-call (s₁ .args .types) (s₁ .args .first-repeat) (s₁ .args .start) (now (s₁ .args .cells)) (length (now (s₁ .args .work))) (now (s₁ .args .lines))
-  answered-at v e = ap (λ (x : Listed). record { outcome = listed-outcome x; outputs = a .list .last .1 .1 .1 .1 .1 .0 ∷ [] }) (sym e) ∙ a .list .ensures
+  answered-at : (v : Listed) → a .list .result ≡ v → record { outcome = listed-outcome v; outputs = a .list .last .1 .1 .1 .1 .1 .1 .0 ∷ [] } ≡ list-call (s₁ .args .types) (s₁ .args .first-repeat) (s₁ .args .start) (now (s₁ .args .cells)) (now (s₁ .args .words)) (length (now (s₁ .args .work))) (now (s₁ .args .lines))
+  answered-at v e = ap (λ (x : Listed). record { outcome = listed-outcome x; outputs = a .list .last .1 .1 .1 .1 .1 .1 .0 ∷ [] }) (sym e) ∙ a .list .ensures
 
 returns : tie.Need-returns
 returns c =
