@@ -4,6 +4,7 @@ mod balancing;
 pub mod bench;
 mod cases;
 mod compare;
+mod damage;
 pub mod model;
 pub mod rust_trees;
 pub mod sample;
@@ -62,7 +63,7 @@ fn random(session: &mut TreeSession, rng: &mut Rng, sets: &[Arc<NodeSet>]) {
     let tree = any_tree(session.oracle(), rng, sets);
     session.check(&tree);
     for _ in 0..COPIES {
-        let mut copy = cases::damaged(rng, &tree);
+        let mut copy = damage::damaged(rng, &tree);
         if rng.one_in(10) {
             copy = tree.clone();
             renumber(rng, &mut copy);
@@ -155,7 +156,7 @@ fn large(session: &mut TreeSession, rng: &mut Rng) {
             for nodes in [1_000, 16_383, 16_384] {
                 let tree = cases::good_tree(rng, &stuff, nodes, shape, mix);
                 session.check(&tree);
-                session.check(&cases::damaged(rng, &tree));
+                session.check(&damage::damaged(rng, &tree));
             }
         }
     }

@@ -18,3 +18,8 @@ pub const LENGTH: usize = 3;
 pub const FIRST: usize = 4;
 pub const COUNT: usize = 5;
 pub const NEXT: usize = 6;
+
+/// The number of the cell that a word offset is in.
+pub fn cell_number(at: usize) -> u32 {
+    (at / CELL_WIDTH + 1) as u32
+}

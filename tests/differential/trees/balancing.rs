@@ -4,7 +4,7 @@
 //! `none_first` says that place 0 of the node set is none: a tree of kind 1 with id 0 is then of the none type, as one of
 //! kind 3 is.
 
-use crate::widths::{CELL_WIDTH, COUNT, FIRST, ID, KIND, LENGTH, NEXT, POSITION};
+use crate::widths::{CELL_WIDTH, COUNT, FIRST, ID, KIND, LENGTH, NEXT, POSITION, cell_number};
 
 /// Trees with up to so many children are left untouched.
 const UNTOUCHED: usize = 8;
@@ -156,21 +156,16 @@ impl Balancing {
         let [first, count] = match (kind, children.len()) {
             (2, _) => *part,
             (_, 0) => [0, 0],
-            (_, count) => [number(at) + 1, count as u32],
+            (_, count) => [cell_number(at) + 1, count as u32],
         };
         out.extend([*kind, *id, position, *length, first, count, 0]);
         for (index, child) in children.iter().enumerate() {
             self.write(out, *child, index + 1 == children.len());
         }
         if !last {
-            out[at + NEXT] = number(out.len());
+            out[at + NEXT] = cell_number(out.len());
         }
     }
-}
-
-/// The number of the cell at a word offset.
-fn number(at: usize) -> u32 {
-    (at / CELL_WIDTH + 1) as u32
 }
 
 fn read(cells: &[u32], cell: &[u32]) -> Node {

@@ -12,7 +12,7 @@ use crate::trees::cases::{self, Mix};
 use crate::trees::compare::Call;
 use crate::trees::model::{Handed, work_words};
 use crate::trees::rust_trees;
-use crate::widths::{CELL_WIDTH, NEXT};
+use crate::widths::{CELL_WIDTH, NEXT, cell_number};
 use crate::{Tree, calls};
 
 /// Each figure is the best of so many repeats.
@@ -228,14 +228,14 @@ fn write_tree(
     let first = if count == 0 {
         0
     } else {
-        number(cells.len()) + 1
+        cell_number(cells.len()) + 1
     };
     cells.extend([kind, id, position, tree.len().into(), first, count, 0]);
     let mut before = None;
     for (child, &position) in tree.children().iter().zip(tree.positions()) {
         let at = cells.len();
         if let Some(before) = before {
-            cells[before + NEXT] = number(at);
+            cells[before + NEXT] = cell_number(at);
         }
         before = Some(at);
         match child {
@@ -248,11 +248,6 @@ fn write_tree(
             }
         }
     }
-}
-
-/// The number of the cell at a word offset.
-fn number(at: usize) -> u32 {
-    (at / CELL_WIDTH + 1) as u32
 }
 
 /// The lines of a materialised tree, as a walk over the Rust's own finds them.

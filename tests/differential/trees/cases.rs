@@ -1,13 +1,11 @@
-//! Random trees as cells and packed words, and damaged copies of them.
+//! Random trees as cells and packed words.
 
 use crate::forests::Node;
 use crate::lists::cases::{Shape, Stuff, good_list};
 use crate::parts::cases::MOST_RECORDS;
 use crate::rng::Rng;
 use crate::trees::model::Handed;
-use crate::widths::{
-    CELL_WIDTH, COUNT, FIRST, ID, KIND, LENGTH, NEXT, POSITION, RECORD_SIZE, RECORD_WIDTH,
-};
+use crate::widths::{CELL_WIDTH, COUNT, FIRST, NEXT, RECORD_SIZE, RECORD_WIDTH, cell_number};
 
 /// How the nodes of a forest become cells.
 #[derive(Clone, Copy, Debug)]
@@ -124,10 +122,10 @@ impl Writer<'_> {
 
     fn link(&mut self, at: usize, chain: &[usize]) {
         let cells = &mut self.tree.cells;
-        cells[at + FIRST] = chain.first().map_or(0, |&first| number(first));
+        cells[at + FIRST] = chain.first().map_or(0, |&first| cell_number(first));
         cells[at + COUNT] = chain.len() as u32;
         for pair in chain.windows(2) {
-            cells[pair[0] + NEXT] = number(pair[1]);
+            cells[pair[0] + NEXT] = cell_number(pair[1]);
         }
     }
 
@@ -176,11 +174,6 @@ impl Writer<'_> {
     }
 }
 
-/// The number of the cell that a word offset is in.
-fn number(at: usize) -> u32 {
-    (at / CELL_WIDTH + 1) as u32
-}
-
 /// Whether siblings fit a part: ranges of 16 bits, and no more records than end indices reach.
 fn packs(run: &[Node]) -> bool {
     let (first, last) = (&run[0], &run[run.len() - 1]);
@@ -196,76 +189,4 @@ fn pack(words: &mut Vec<u16>, from: usize, node: &Node, start: u32) {
         pack(words, from, kid, start);
     }
     words[at + 3] = (words.len() - from) as u16;
-}
-
-/// A good tree with one thing wrong, or nearly: mostly one word changed, else words or cells dropped or added.
-pub fn damaged(rng: &mut Rng, tree: &Handed) -> Handed {
-    let mut copy = tree.clone();
-    let (cells, words) = (&mut copy.cells, &mut copy.words);
-    let at = rng.below(cells.len());
-    let cell = at / CELL_WIDTH * CELL_WIDTH;
-    match rng.below(26) {
-        0 => drop(cells.remove(at)),
-        1 => cells.insert(at, rng.next() as u32),
-        2 => drop(cells.drain(cell..cell + CELL_WIDTH)),
-        3 => {
-            let doubled = cells[cell..cell + CELL_WIDTH].to_vec();
-            cells.splice(cell..cell, doubled);
-        }
-        4 => cells.truncate(cell + CELL_WIDTH),
-        5 => cells.extend([3, 0, 0, 0, 0, 0, 0]),
-        6 => words.extend([0, 0, 0, (words.len() as u16).wrapping_add(4)]),
-        7 => words.truncate(words.len().saturating_sub(rng.pick(&[1, 4]))),
-        8 => words.push(0),
-        9..15 if !words.is_empty() => return with_packed_word_changed(rng, tree),
-        _ => cells[at] = boundary_word(rng, tree, at),
-    }
-    copy
-}
-
-/// A copy of a tree that has packed words, with one of them changed.
-pub fn with_packed_word_changed(rng: &mut Rng, tree: &Handed) -> Handed {
-    let mut copy = tree.clone();
-    let at = rng.below(copy.words.len());
-    copy.words[at] = boundary_packed(rng, tree, at);
-    copy
-}
-
-/// A value at or beside a boundary of the rule that a word of a cell is under.
-fn boundary_word(rng: &mut Rng, tree: &Handed, at: usize) -> u32 {
-    let (cells, types) = (&tree.cells, tree.types);
-    let word = cells[at];
-    let count = cells.len() / CELL_WIDTH;
-    let place = at % CELL_WIDTH;
-    let other = cells[rng.below(count) * CELL_WIDTH + place];
-    let near = rng.pick(&[word.wrapping_add(1), word.wrapping_sub(1)]);
-    let wild = rng.next() as u32;
-    let far = rng.pick(&[0, u32::MAX, wild, word ^ 0x8000_0000]);
-    match place {
-        KIND => rng.pick(&[0, 1, 2, 3, 1, 2, 3, 4, u32::MAX]),
-        ID => rng.pick(&[types, types.wrapping_sub(1), 1, 0, 65_535, other, far]),
-        POSITION | LENGTH => rng.pick(&[near, near, near, 0, other, far]),
-        COUNT => rng.pick(&[near, near, near, 0, other, far, word.wrapping_add(4)]),
-        _ => {
-            let some = 1 + rng.below(count + 1) as u32;
-            let own = number(at);
-            rng.pick(&[near, near, 0, some, some, own, own + 1, other, far])
-        }
-    }
-}
-
-/// The same for a packed word.
-fn boundary_packed(rng: &mut Rng, tree: &Handed, at: usize) -> u16 {
-    let words = &tree.words;
-    let word = words[at];
-    let other = words[rng.below(words.len() / RECORD_WIDTH) * RECORD_WIDTH + at % RECORD_WIDTH];
-    let near = rng.pick(&[word.wrapping_add(1), word.wrapping_sub(1)]);
-    match at % RECORD_WIDTH {
-        0 => rng.pick(&[tree.types as u16, 0, 65_535, other]),
-        1 | 2 => rng.pick(&[near, near, near, 0, 65_535, other]),
-        _ => {
-            let (more, less) = (word.wrapping_add(4), word.wrapping_sub(4));
-            rng.pick(&[near, more, more, less, less, 0, 65_535, other])
-        }
-    }
 }

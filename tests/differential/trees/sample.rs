@@ -13,7 +13,7 @@ use crate::rng::Rng;
 use crate::tree::NodeSet;
 use crate::trees::compare::{Call, NONE_FIRST};
 use crate::trees::model::{self, Handed};
-use crate::trees::{balancing, cases, rust_trees};
+use crate::trees::{balancing, damage, rust_trees};
 use crate::widths::{CELL_WIDTH, KIND, LINE_WIDTH, RECORD_WIDTH};
 use crate::{Tree, flatten, trees};
 
@@ -114,7 +114,7 @@ impl recording::Sample for Sample {
     fn draw(&mut self, rng: &mut Rng) {
         let mut tree = trees::any_tree(&mut self.oracle, rng, &self.sets);
         if rng.one_in(3) && !tree.words.is_empty() {
-            tree = cases::with_packed_word_changed(rng, &tree);
+            tree = damage::with_packed_word_changed(rng, &tree);
         }
         if rng.one_in(60) {
             tree.types = rng.pick(&[65_537, u32::MAX]);
