@@ -78,6 +78,8 @@ unsafe extern "C" {
         start: u32,
         cells: *const u32,
         cells_len: usize,
+        words: *const u16,
+        words_len: usize,
         work: *mut u32,
         work_len: usize,
         lines: *mut u32,
@@ -204,12 +206,11 @@ pub fn balance(
     )
 }
 
-/// The packed words are not looked at.
 pub fn list(tree: &Handed, work: &mut [u32], lines: &mut [u32], info: &mut [u32]) -> u32 {
     call!(
         hulwyth_list,
         [tree.types, tree.first_repeat, tree.start],
-        [tree.cells],
+        [tree.cells, tree.words],
         [work, lines, info]
     )
 }

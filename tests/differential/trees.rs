@@ -36,12 +36,15 @@ pub fn run(seed: u64, cases: u64) -> ExitCode {
 }
 
 fn compare(seed: u64, cases: u64) -> ExitCode {
-    println!("seed {seed}, {cases} random trees with {COPIES} damaged copies each");
+    println!(
+        "seed {seed}, {cases} random trees with {COPIES} damaged copies and one with a late start each"
+    );
     let mut session = TreeSession::default();
     let mut rng = Rng::new(seed);
     let sets = small_sets(session.oracle());
     session.section("short slices of cells, all of them", short::run);
     session.section("large trees", |session| large(session, &mut rng));
+    session.section("deep trees", |session| deep(session, &mut rng));
     session.section("random and damaged trees", |session| {
         for _ in 0..cases {
             random(session, &mut rng, &sets);
@@ -58,7 +61,7 @@ pub fn small_sets(oracle: &mut Oracle) -> Vec<Arc<NodeSet>> {
     (0..=6).map(set).collect()
 }
 
-/// A random tree, and copies that are damaged or handed in with other numbers.
+/// A random tree, copies that are damaged or handed in with other numbers, and copies with a start at the limit.
 fn random(session: &mut TreeSession, rng: &mut Rng, sets: &[Arc<NodeSet>]) {
     let tree = any_tree(session.oracle(), rng, sets);
     session.check(&tree);
@@ -69,6 +72,12 @@ fn random(session: &mut TreeSession, rng: &mut Rng, sets: &[Arc<NodeSet>]) {
             renumber(rng, &mut copy);
         }
         session.check(&copy);
+    }
+    let mut late = tree.clone();
+    late.start = damage::late_start(rng, &tree);
+    session.check_list(&late);
+    if rng.one_in(4) {
+        session.check_list(&damage::damaged(rng, &late));
     }
 }
 
@@ -157,6 +166,30 @@ fn large(session: &mut TreeSession, rng: &mut Rng) {
                 let tree = cases::good_tree(rng, &stuff, nodes, shape, mix);
                 session.check(&tree);
                 session.check(&damage::damaged(rng, &tree));
+            }
+        }
+    }
+}
+
+/// Trees nested deeper than lists that a build keeps whole: trees each in the next, and in the last of them packed records each in
+/// the next, up to as many as a part holds; damaged copies, and copies with a start at the limit.
+fn deep(session: &mut TreeSession, rng: &mut Rng) {
+    for trees in [1, 2_503, 2_504, 5_000, 20_000] {
+        for records in [0, 1, 100, 2_504, 16_383] {
+            for _ in 0..2 {
+                let mix = Mix {
+                    parts: if records == 0 { 0 } else { 100 },
+                    none: rng.pick(&[0, 50, 100]),
+                    id_0: 20,
+                    run: 1 + rng.below(3),
+                };
+                let types = rng.pick(&[2, 300, 65_536]);
+                let forest = cases::nested(rng, types, trees, records);
+                let mut tree = cases::tree_over(rng, types, &forest, mix);
+                session.check(&tree);
+                session.check(&damage::damaged(rng, &tree));
+                tree.start = damage::late_start(rng, &tree);
+                session.check_list(&tree);
             }
         }
     }

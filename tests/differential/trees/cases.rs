@@ -1,11 +1,13 @@
 //! Random trees as cells and packed words.
 
-use crate::forests::Node;
+use crate::forests::{Node, count};
 use crate::lists::cases::{Shape, Stuff, good_list};
 use crate::parts::cases::MOST_RECORDS;
 use crate::rng::Rng;
 use crate::trees::model::Handed;
-use crate::widths::{CELL_WIDTH, COUNT, FIRST, NEXT, RECORD_SIZE, RECORD_WIDTH, cell_number};
+use crate::widths::{
+    CELL_WIDTH, COUNT, FIRST, KIND, LENGTH, NEXT, POSITION, RECORD_SIZE, RECORD_WIDTH, cell_number,
+};
 
 /// How the nodes of a forest become cells.
 #[derive(Clone, Copy, Debug)]
@@ -63,6 +65,46 @@ pub fn tree_over(rng: &mut Rng, types: u32, forest: &[Node], mix: Mix) -> Handed
     writer.tree
 }
 
+/// A forest in which so many nodes stand each in the next, too long for a part, and in the last of them so many short ones, each in
+/// the next. Before and behind some of them stand leaves.
+pub fn nested(rng: &mut Rng, types: u32, long: usize, short: usize) -> Vec<Node> {
+    let id = |rng: &mut Rng| rng.below(types as usize) as u32;
+    let leaf = |rng: &mut Rng, start: u32| {
+        let end = start + rng.below(3) as u32;
+        let (id, kids) = (id(rng), Vec::new());
+        rng.one_in(40).then_some(Node {
+            id,
+            start,
+            end,
+            kids,
+        })
+    };
+    let mut end = 0;
+    let before = (0..long + short).map(|_| {
+        let leaf = leaf(rng, end);
+        end = leaf.as_ref().map_or(end, |leaf| leaf.end);
+        (leaf, end)
+    });
+    let before: Vec<(Option<Node>, u32)> = before.collect();
+    let mut row = Vec::new();
+    for (level, (leaf_before, start)) in before.into_iter().enumerate().rev() {
+        if level + 1 == long {
+            end += LONGEST + 1;
+        }
+        let node = Node {
+            id: id(rng),
+            start,
+            end,
+            kids: row,
+        };
+        row = Vec::from_iter(leaf_before);
+        row.push(node);
+        row.extend(leaf(rng, end));
+        end = row[row.len() - 1].end;
+    }
+    row
+}
+
 /// The forest of a record list that is accepted.
 pub fn forest(records: &[u32]) -> Vec<Node> {
     let mut finished: Vec<Node> = Vec::new();
@@ -94,16 +136,21 @@ struct Writer<'a> {
 }
 
 impl Writer<'_> {
-    /// The top, whose length is free.
+    /// The top, whose length is free. Where the last cell is a part right below it, that part is often longer than its records.
     fn top(&mut self, forest: &[Node]) {
         let end = forest.last().map_or(0, |node| node.end);
         let length = self.rng.pick(&[end, end, 0, end / 2, u32::MAX]);
         let id = self.rng.below(self.tree.types as usize) as u32;
-        self.cell([1, id, 0, length, 0, 0, 0], forest, 0);
+        let last = self.cell([1, id, 0, length, 0, 0, 0], forest, 0);
+        let cell = &mut self.tree.cells[last.unwrap_or(0)..];
+        if cell[KIND] == 2 {
+            let room = u32::MAX - cell[POSITION] - cell[LENGTH];
+            cell[LENGTH] += self.rng.pick(&[0, 0, room.min(1), room.min(70_000), room]);
+        }
     }
 
-    /// A cell with its descendants, of a tree that starts at `start`.
-    fn cell(&mut self, words: [u32; CELL_WIDTH], kids: &[Node], start: u32) {
+    /// A cell with its descendants, of a tree that starts at `start`; the word offset of its last child, if it has one.
+    fn cell(&mut self, words: [u32; CELL_WIDTH], kids: &[Node], start: u32) -> Option<usize> {
         let at = self.tree.cells.len();
         self.tree.cells.extend(words);
         let mut chain: Vec<usize> = Vec::new();
@@ -118,6 +165,7 @@ impl Writer<'_> {
             }
         }
         self.link(at, &chain);
+        chain.last().copied()
     }
 
     fn link(&mut self, at: usize, chain: &[usize]) {
@@ -133,8 +181,7 @@ impl Writer<'_> {
     fn child<'n>(&mut self, siblings: &'n [Node], start: u32) -> &'n [Node] {
         if self.rng.below(100) < self.mix.parts {
             let run = 1 + self.rng.below(self.mix.run.min(siblings.len()));
-            let fits = packs(&siblings[..run]);
-            if fits {
+            if packs(&siblings[..run]) {
                 self.part(&siblings[..run], siblings[0].start - start);
                 return &siblings[run..];
             }
@@ -160,7 +207,7 @@ impl Writer<'_> {
         }
     }
 
-    /// A part at a position: what its records need, and now and then more.
+    /// A part at a position, as long as its records need.
     fn part(&mut self, run: &[Node], position: u32) {
         let from = self.tree.words.len();
         let start = run.first().map_or(0, |node| node.start);
@@ -177,7 +224,7 @@ impl Writer<'_> {
 /// Whether siblings fit a part: ranges of 16 bits, and no more records than end indices reach.
 fn packs(run: &[Node]) -> bool {
     let (first, last) = (&run[0], &run[run.len() - 1]);
-    last.end - first.start <= LONGEST && crate::forests::count(run) <= MOST_RECORDS
+    last.end - first.start <= LONGEST && count(run) <= MOST_RECORDS
 }
 
 /// A record with its descendants, in a part that begins at the word offset `from` and starts at `start`.

@@ -148,20 +148,38 @@ impl TreeSession {
 
     /// Compares the calls on one tree with the model and with the Rust.
     pub fn check(&mut self, tree: &Handed) {
-        self.seen.trees += 1;
-        self.lent.stir(self.seen.trees);
-        self.list(tree);
-        let bad = model::bad_cell(tree.types, 0, true, &tree.cells, &tree.words);
+        self.turn(tree);
+        let bad = model::bad_cell(tree.types, 0, &tree.cells, &tree.words);
         if bad.is_some() || tree.types > 65_536 {
+            self.list(tree, None);
             let [without, with] = self.balances();
             for call in [Call::Materialise, without, with] {
                 self.compare(tree, &Expected::new(call, bad, work_for(tree)));
             }
         } else if let Some((rust, none_first)) = self.rust_trees(tree) {
             self.seen.note(tree);
+            let materialised = rust.materialize();
+            self.list(tree, Some(&materialised));
             self.balance(tree, &rust, &none_first);
-            self.materialise(tree, &rust, &none_first);
+            self.materialise(tree, &materialised, &none_first);
         }
+    }
+
+    /// Compares list alone: the other calls do not look at the start.
+    pub fn check_list(&mut self, tree: &Handed) {
+        self.turn(tree);
+        let bad = model::bad_cell(tree.types, 0, &tree.cells, &tree.words);
+        if bad.is_some() || tree.types > 65_536 {
+            self.list(tree, None);
+        } else if let Some(rust) = self.rust_tree(tree) {
+            self.list(tree, Some(&rust.materialize()));
+        }
+    }
+
+    /// One more tree.
+    fn turn(&mut self, tree: &Handed) {
+        self.seen.hand_in(tree);
+        self.lent.stir(self.seen.trees);
     }
 
     /// Balance on a set without none in place 0 and on one with it.
@@ -170,9 +188,9 @@ impl TreeSession {
         [0, NONE_FIRST[turn]].map(Call::Balance)
     }
 
-    /// Materialise on an accepted tree, and list on what it gives.
+    /// Materialise on an accepted tree, and list on what it gives. `rust` is the Rust's materialised tree.
     fn materialise(&mut self, tree: &Handed, rust: &crate::Tree, none_first: &NoneFirst) {
-        let (cells, words) = rust_trees::cells_of(&rust.materialize());
+        let (cells, words) = rust_trees::cells_of(rust);
         assert!(words.is_empty(), "a part in a materialised tree");
         let (alike, _) = rust_trees::cells_of(&none_first.tree.materialize());
         if alike != rust_trees::with_id_0_as_none(&cells) {
@@ -184,11 +202,12 @@ impl TreeSession {
         expected.counts = [cells.len() / CELL_WIDTH, 0];
         expected.written = cells;
         self.compare(tree, &expected);
-        self.list(&Handed {
+        let plain = Handed {
             cells: expected.written,
             words,
             ..*tree
-        });
+        };
+        self.list(&plain, Some(rust));
     }
 
     /// Balance on an accepted tree, on both sets.
@@ -212,23 +231,19 @@ impl TreeSession {
         }
     }
 
-    fn list(&mut self, tree: &Handed) {
-        let bad = model::bad_cell(tree.types, tree.start, false, &tree.cells, &[]);
-        let work = model::work_words(tree.cells.len(), 0);
-        let mut expected = Expected::new(Call::List, bad, work);
-        if bad.is_none() && tree.types <= 65_536 {
-            let plain = Handed {
-                words: Vec::new(),
-                ..tree.clone()
-            };
-            let Some(rust) = self.rust_tree(&plain) else {
-                return;
-            };
-            let lines = flatten::lines(&rust.materialize(), tree.first_repeat, tree.start);
-            expected.written = rust_trees::narrow(&lines);
-            let count = lines.len() / LINE_WIDTH;
-            expected.counts = [count, 0];
-            self.seen.lines += count as u64;
+    /// List on a tree. `rust`: the Rust's materialised tree, where no cell breaks a rule counted from 0.
+    fn list(&mut self, tree: &Handed, rust: Option<&crate::Tree>) {
+        let bad = model::bad_cell(tree.types, tree.start, &tree.cells, &tree.words);
+        let mut expected = Expected::new(Call::List, bad, work_for(tree));
+        match (bad, rust) {
+            (None, Some(rust)) => {
+                let lines = flatten::lines(rust, tree.first_repeat, tree.start);
+                expected.written = rust_trees::narrow(&lines);
+                expected.counts = [lines.len() / LINE_WIDTH, 0];
+                self.seen.listed(tree, rust, expected.counts[0]);
+            }
+            (Some(place), Some(_)) => self.seen.late(tree, place),
+            (_, None) => {}
         }
         self.compare(tree, &expected);
     }
@@ -369,7 +384,7 @@ impl TreeSession {
     }
 }
 
-/// The work slice that materialise and balance ask for.
+/// The work slice that the calls ask for.
 fn work_for(tree: &Handed) -> usize {
     model::work_words(tree.cells.len(), tree.words.len())
 }

@@ -1,8 +1,10 @@
-//! Damaged copies of trees as cells and packed words.
+//! Damaged copies of trees as cells and packed words, and starts of a listing at the limit of 32 bits.
 
 use super::model::Handed;
 use crate::rng::Rng;
-use crate::widths::{CELL_WIDTH, COUNT, ID, KIND, LENGTH, POSITION, RECORD_WIDTH, cell_number};
+use crate::widths::{
+    CELL_WIDTH, COUNT, FIRST, ID, KIND, LENGTH, NEXT, POSITION, RECORD_WIDTH, cell_number,
+};
 
 /// A good tree with one thing wrong, or nearly: mostly one word changed, else words or cells dropped or added.
 pub fn damaged(rng: &mut Rng, tree: &Handed) -> Handed {
@@ -74,4 +76,50 @@ fn boundary_packed(rng: &mut Rng, tree: &Handed, at: usize) -> u16 {
             rng.pick(&[near, more, more, less, less, 0, 65_535, other])
         }
     }
+}
+
+/// A start from which one of the cells below the top ends at the last position of 32 bits, or past it; mostly a child of the top. The
+/// cells are those of a tree.
+pub fn late_start(rng: &mut Rng, tree: &Handed) -> u32 {
+    let (children, all) = ends(&tree.cells);
+    let from = if rng.one_in(4) { &all } else { &children };
+    let end = match from.is_empty() {
+        true => 0,
+        false => rng.pick(from),
+    };
+    let last = u32::MAX - end;
+    rng.pick(&[last, last.saturating_add(1), last.saturating_add(1)])
+}
+
+/// The ends of the top's children, and of all cells below the top, from the start of the top.
+fn ends(cells: &[u32]) -> (Vec<u32>, Vec<u32>) {
+    let starts = starts(cells);
+    let rows = cells.chunks(CELL_WIDTH).zip(starts);
+    let all = rows.skip(1).map(|(cell, start)| start + cell[LENGTH]);
+    let all: Vec<u32> = all.collect();
+    let children = chain(cells, 0).map(|child| all[child - 1]).collect();
+    (children, all)
+}
+
+/// Where each cell starts, from the start of the top. The cells are those of a tree.
+pub fn starts(cells: &[u32]) -> Vec<u32> {
+    let mut starts = vec![0; cells.len() / CELL_WIDTH];
+    for parent in 0..starts.len() {
+        for child in chain(cells, parent) {
+            starts[child] = starts[parent] + cells[child * CELL_WIDTH + POSITION];
+        }
+    }
+    starts
+}
+
+/// The children of a cell; cells are counted from 0 here.
+fn chain(cells: &[u32], parent: usize) -> impl Iterator<Item = usize> {
+    let named = |link: u32| (link != 0).then(|| link as usize - 1);
+    let cell = &cells[parent * CELL_WIDTH..];
+    let first = if cell[KIND] == 2 {
+        None
+    } else {
+        named(cell[FIRST])
+    };
+    std::iter::successors(first, move |&child| named(cells[child * CELL_WIDTH + NEXT]))
 }

@@ -92,24 +92,17 @@ impl Cell {
     }
 }
 
-/// The place of 15, or nothing. `start`: where the top starts; `parts`: whether parts are allowed.
-pub fn bad_cell(
-    types: u32,
-    start: u32,
-    parts: bool,
-    cells: &[u32],
-    words: &[u16],
-) -> Option<usize> {
+/// The place of 15, or nothing. `start`: where the top starts.
+pub fn bad_cell(types: u32, start: u32, cells: &[u32], words: &[u16]) -> Option<usize> {
     if cells.is_empty() || cells.len() % CELL_WIDTH != 0 {
         return Some(0);
     }
-    let rules = Rules::new(types, start, parts, cells, words);
+    let rules = Rules::new(types, start, cells, words);
     (1..=cells.len() / CELL_WIDTH).find(|&cell| rules.breaks(cell))
 }
 
 struct Rules<'a> {
     types: u32,
-    parts: bool,
     /// Numbered from 1; the one at 0 is none.
     cells: Vec<Cell>,
     words: &'a [u16],
@@ -126,13 +119,12 @@ struct Rules<'a> {
 }
 
 impl<'a> Rules<'a> {
-    fn new(types: u32, start: u32, parts: bool, cells: &[u32], words: &'a [u16]) -> Self {
+    fn new(types: u32, start: u32, cells: &[u32], words: &'a [u16]) -> Self {
         let mut all = vec![Cell::default()];
         all.extend(cells.chunks(CELL_WIDTH).map(Cell::new));
         let count = all.len();
         let mut rules = Self {
             types,
-            parts,
             cells: all,
             words,
             chains: vec![Vec::new(); count],
@@ -215,14 +207,12 @@ impl<'a> Rules<'a> {
         cell == 1 && (it.kind != 1 || it.position != 0 || it.next != 0)
     }
 
-    /// "kind (1 tree, 2 packed part, 3 tree of `NodeType::none`), id (0 for kinds 2 and 3)", "Ids are below T", "Listing takes
-    /// a tree without kind 2"
+    /// "kind (1 tree, 2 packed part, 3 tree of `NodeType::none`), id (0 for kinds 2 and 3)", "Ids are below T"
     fn wrong_kind_or_id(&self, cell: usize) -> bool {
         let it = &self.cells[cell];
         match it.kind {
             1 => it.id >= u64::from(self.types),
-            2 => it.id != 0 || !self.parts,
-            3 => it.id != 0,
+            2 | 3 => it.id != 0,
             _ => true,
         }
     }

@@ -2,10 +2,10 @@
 
 use std::sync::Arc;
 
+use super::model::Handed;
 use crate::TextSize;
 use crate::flatten::{Flat, flatten, flatten_by};
 use crate::tree::{NodeSet, NodeType, Tree, TreeBuffer, TreeChild};
-use crate::trees::model::Handed;
 use crate::widths::{CELL_WIDTH, COUNT, FIRST, ID, KIND, LENGTH, NEXT, POSITION};
 
 /// The tree that cells and words stand for, where they keep the cell rules.
@@ -51,6 +51,15 @@ impl Reader<'_> {
         let length = TextSize::new(cell[LENGTH]);
         TreeChild::Buffer(TreeBuffer::new(words, length, Arc::clone(self.set)))
     }
+}
+
+/// How many levels of trees there are below the top of a tree without packed parts.
+pub fn levels(tree: &Tree) -> usize {
+    let below = tree.children().iter().map(|child| match child {
+        TreeChild::Tree(child) => 1 + levels(child),
+        TreeChild::Buffer(_) => panic!("a packed part in a materialised tree"),
+    });
+    below.max().unwrap_or(0)
 }
 
 /// Cells and words of a Rust tree, at the widths of the calls.

@@ -128,28 +128,29 @@ impl recording::Sample for Sample {
 }
 
 impl Sample {
-    /// Materialise and balance, and list on the Rust's materialised tree.
+    /// Materialise, balance and list, and list on the Rust's materialised tree too.
     fn calls(&mut self, rng: &mut Rng, tree: &Handed) {
         if tree.cells.len() > MOST_CELLS || tree.words.len() > MOST_WORDS {
             return;
         }
-        let bad = model::bad_cell(tree.types, 0, true, &tree.cells, &tree.words);
-        let number = match (tree.types > 65_536, bad) {
-            (true, _) => 1,
-            (false, Some(_)) => 15,
-            (false, None) => 0,
-        };
+        let from_0 = number(tree, 0);
         let rust = self.rust(tree);
         let balanced = rust.clone().map(|rust| cells_answer(&rust.balance()));
-        self.agreed(rng, Call::Balance(0), tree, number, balanced);
+        self.agreed(rng, Call::Balance(0), tree, from_0, balanced);
         let call = Call::Balance(rng.pick(&NONE_FIRST));
         let balanced = self.none_first(tree, &rust);
-        self.agreed(rng, call, tree, number, balanced);
+        self.agreed(rng, call, tree, from_0, balanced);
         let materialised = rust.and_then(|rust| guarded(|| rust.materialize()));
         let cells = materialised.clone().map(|rust| cells_answer(&rust));
-        self.agreed(rng, Call::Materialise, tree, number, cells);
-        if let (0, Ok(materialised)) = (number, materialised) {
-            self.list(rng, tree, &materialised);
+        self.agreed(rng, Call::Materialise, tree, from_0, cells);
+        self.list(rng, tree, &materialised);
+        if let (0, Ok(rust)) = (from_0, &materialised) {
+            let plain = Handed {
+                cells: cells_answer(rust).written,
+                words: Vec::new(),
+                ..*tree
+            };
+            self.list(rng, &plain, &materialised);
         }
     }
 
@@ -185,21 +186,16 @@ impl Sample {
         }
     }
 
-    fn list(&mut self, rng: &mut Rng, tree: &Handed, materialised: &Tree) {
-        let listed = Handed {
-            cells: cells_answer(materialised).written,
-            words: Vec::new(),
-            ..*tree
-        };
-        let bad = model::bad_cell(listed.types, listed.start, false, &listed.cells, &[]);
-        if bad.is_none() {
-            let lines = flatten::lines(materialised, listed.first_repeat, listed.start);
-            let answer = Answer {
-                written: rust_trees::narrow(&lines),
-                words: Vec::new(),
-            };
-            self.take(rng, Call::List, &listed, 0, answer);
-        }
+    /// List on a tree, by the Rust's materialised tree. The Rust has no counterpart of an end that is too late from the start alone:
+    /// such a tree is not taken.
+    fn list(&mut self, rng: &mut Rng, tree: &Handed, materialised: &Result<Tree, Panicked>) {
+        let number = number(tree, tree.start);
+        let rust = materialised.as_ref().map_err(|&panicked| panicked);
+        let lines = rust.map(|rust| match number {
+            0 => lines_answer(rust, tree),
+            _ => Answer::default(),
+        });
+        self.agreed(rng, Call::List, tree, number, lines);
     }
 
     /// Takes a call with the Rust's answer unless it is too large.
@@ -229,6 +225,25 @@ impl Sample {
             };
             format!("{told} :{out}{words}")
         });
+    }
+}
+
+/// The number that a call is answered with that is lent enough and counts ends from this start.
+fn number(tree: &Handed, start: u32) -> u32 {
+    let bad = model::bad_cell(tree.types, start, &tree.cells, &tree.words);
+    match (tree.types > 65_536, bad) {
+        (true, _) => 1,
+        (false, Some(_)) => 15,
+        (false, None) => 0,
+    }
+}
+
+/// The lines of the Rust's materialised tree, by the numbers of a tree that is handed in.
+fn lines_answer(materialised: &Tree, tree: &Handed) -> Answer {
+    let lines = flatten::lines(materialised, tree.first_repeat, tree.start);
+    Answer {
+        written: rust_trees::narrow(&lines),
+        words: Vec::new(),
     }
 }
 
@@ -262,8 +277,7 @@ fn quota(call: Call, number: u32, change: Change) -> usize {
     match (call, number) {
         (Call::Balance(1..), 0) if change != Change::Otherwise => 4,
         (Call::Balance(1..), 1..) => 20,
-        (Call::Materialise | Call::Balance(_), 0) => 14,
-        (Call::List, 0) => 40,
+        (_, 0) => 14,
         _ => 60,
     }
 }

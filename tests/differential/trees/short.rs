@@ -77,6 +77,7 @@ pub fn run(session: &mut TreeSession) {
         check(session, 1, cells, &[]);
     });
     ranges(session);
+    starts(session);
     kinds(session);
 }
 
@@ -114,6 +115,81 @@ fn ranges(session: &mut TreeSession) {
             words: Vec::new(),
         });
     });
+}
+
+/// A top alone, with a child, with two, and with a child that holds one: trees, trees of kind 3, empty parts and parts whose records
+/// end at their start, one behind it and nested. All ranges near the start and near the last position of 32 bits.
+fn starts(session: &mut TreeSession) {
+    const LAST: u32 = u32::MAX;
+    const PLACES: &[u32] = &[0, 1, LAST - 1, LAST];
+    const LENGTHS: &[u32] = &[0, 1, 2, LAST - 1, LAST];
+    const STARTS: &[u32] = &[0, 1, LAST - 2, LAST - 1, LAST];
+    const HELD: [Child; 6] = [
+        (1, &[]),
+        (3, &[]),
+        (2, &[]),
+        (2, &[0, 0, 0, 4]),
+        (2, &[1, 0, 1, 4]),
+        (2, &[0, 0, 1, 8, 1, 1, 1, 8]),
+    ];
+    spelling::words(&[LENGTHS, STARTS], |word| {
+        check_from(session, word[1], &[[1, 0, 0, word[0], 0, 0, 0]], &[]);
+    });
+    for (kind, words) in HELD {
+        spelling::words(&[PLACES, LENGTHS, STARTS], |word| {
+            let only = with_words([kind, 0, word[0], word[1]], 0, words, 0);
+            check_from(session, word[2], &[[1, 0, 0, 0, 2, 1, 0], only], words);
+        });
+        for (kind_2, words_2) in HELD {
+            let letters = [PLACES, LENGTHS, PLACES, LENGTHS, STARTS];
+            spelling::words(&letters, |word| {
+                let &[a, al, b, bl, start] = word else {
+                    unreachable!("a word has a letter for each alphabet");
+                };
+                let [first, second] = [[kind, 0, a, al], [kind_2, 0, b, bl]];
+                let cells = [
+                    [1, 0, 0, 0, 2, 2, 0],
+                    with_words(first, 0, words, 3),
+                    with_words(second, words.len(), words_2, 0),
+                ];
+                check_from(session, start, &cells, &[words, words_2].concat());
+                if kind != 2 {
+                    let cells = [
+                        [1, 0, 0, 0, 2, 1, 0],
+                        [kind, 0, a, al, 3, 1, 0],
+                        with_words(second, 0, words_2, 0),
+                    ];
+                    check_from(session, start, &cells, words_2);
+                }
+            });
+        }
+    }
+}
+
+/// The kind of a cell without children, and the words of a part.
+type Child = (u32, &'static [u16]);
+
+/// A cell without children, with the words of a part at an offset.
+fn with_words(cell: [u32; 4], offset: usize, words: &[u16], next: u32) -> [u32; CELL_WIDTH] {
+    let [kind, id, position, length] = cell;
+    let first = if kind == 2 { offset as u32 } else { 0 };
+    let count = words.len() as u32;
+    [kind, id, position, length, first, count, next]
+}
+
+/// Lists of a few short cells, and the other calls where the start is 0: they do not look at it.
+fn check_from(session: &mut TreeSession, start: u32, cells: &[[u32; CELL_WIDTH]], words: &[u16]) {
+    let tree = Handed {
+        types: 2,
+        first_repeat: 1,
+        start,
+        cells: cells.concat(),
+        words: words.to_vec(),
+    };
+    match start {
+        0 => session.check(&tree),
+        _ => session.check_list(&tree),
+    }
 }
 
 /// Kinds and ids alone, of a top with nine children: the first, fifth or last of these holds three, of which the first
