@@ -1,5 +1,5 @@
-//! One list at a time: the build against the Rust's, cell by cell and word by word, and the whole run against the ordinary
-//! reading of the records.
+//! One list at a time: the build against the Rust's, cell by cell and word by word, and the whole run, with materialising and
+//! without it, against the ordinary reading of the records.
 
 use crate::builds::case::{self, Case};
 use crate::builds::tally::BuildTally;
@@ -210,7 +210,8 @@ impl BuildSession {
             .map_err(|what| format!("{what}, lent {lent:?}"))
     }
 
-    /// Build, materialise and list: cells as the Rust materialises them, then the ordinary reading of the records.
+    /// Build and list: the ordinary reading of the records. Build, materialise and list: cells as the Rust materialises them, and
+    /// the same lines.
     fn run(&mut self, case: &Case, rust: &Tree, written: Written) -> Result<(), String> {
         let list = &case.list;
         let built = Handed {
@@ -232,7 +233,9 @@ impl BuildSession {
             false => self.deep_lines(list, &materialised, &reading.lines),
         };
         self.tally.seen.lines += (lines.len() / LINE_WIDTH) as u64;
+        self.list(&built, &lines)?;
         self.list(&found, &lines)
+            .map_err(|what| format!("materialised, {what}"))
     }
 
     /// The lines of a list that is nested too deep to be listed whole: those of the Rust's tree.
@@ -260,7 +263,7 @@ impl BuildSession {
     }
 
     fn list(&mut self, tree: &Handed, lines: &[u32]) -> Result<(), String> {
-        let need = model::work_words(tree.cells.len(), 0);
+        let need = model::work_words(tree.cells.len(), tree.words.len());
         let (work, _) = self.lent.filled(need, Filling::Left);
         let mut info = [UNTOUCHED; 3];
         let mut found = vec![UNTOUCHED; lines.len()];
