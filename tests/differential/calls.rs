@@ -207,10 +207,22 @@ pub fn balance(
 }
 
 pub fn list(tree: &Handed, work: &mut [u32], lines: &mut [u32], info: &mut [u32]) -> u32 {
+    list_of(tree, &tree.cells, &tree.words, work, lines, info)
+}
+
+/// The same of other cells and words, with the numbers of a tree.
+pub fn list_of(
+    tree: &Handed,
+    cells: &[u32],
+    words: &[u16],
+    work: &mut [u32],
+    lines: &mut [u32],
+    info: &mut [u32],
+) -> u32 {
     call!(
         hulwyth_list,
         [tree.types, tree.first_repeat, tree.start],
-        [tree.cells, tree.words],
+        [cells, words],
         [work, lines, info]
     )
 }

@@ -6,13 +6,13 @@ use std::process::ExitCode;
 use crate::lists::cases::{Shape, Stuff, good_list};
 use crate::oracle::{Oracle, run_on_large_stack};
 use crate::rng::Rng;
-use crate::timing::quickest;
+use crate::timing::{quickest, seconds};
 use crate::tree::{NodeType, TreeChild};
 use crate::trees::cases::{self, Mix};
 use crate::trees::compare::Call;
 use crate::trees::model::{Handed, work_words};
 use crate::trees::rust_trees;
-use crate::widths::{CELL_WIDTH, NEXT, cell_number};
+use crate::widths::{CELL_WIDTH, LINE_WIDTH, NEXT, cell_number};
 use crate::{Tree, calls};
 
 /// Each figure is the best of so many repeats.
@@ -25,11 +25,12 @@ const TYPES: u32 = 300;
 
 const NOTE: &str = "ns per cell of the result (of list: of the materialised tree), best of several repeats in one process. The Rust's
 materialise is `Tree::materialize`, with its allocation and without dropping the result; it checks nothing, and the call
-here checks all cells and words first. The Rust's list is a walk over the children of the materialised tree that writes the
-same lines. The Rust's balance shares what stays as it is and so may take no time at all, while the call here writes all
-cells: its time is that of `Tree::balance` and a walk that writes the cells and words of the result. `balance, none` is on a
-node set with none in place 0, on both sides.
-The work slice has been written to before, so that no page of it is new.";
+here checks all cells and words first. The Rust's list is `Tree::materialize` and a walk over the children of the result that
+writes the same lines. `pair`: materialise and then list of the cells that it wrote, with no packed words. The three ways to
+the lines are timed in turn in each repeat. The Rust's balance shares what stays as it is and so may take no time at all,
+while the call here writes all cells: its time is that of `Tree::balance` and a walk that writes the cells and words of the
+result. `balance, none` is on a node set with none in place 0, on both sides.
+The slices have been written to before, so that no page of them is new.";
 
 /// What is measured: forests of a shape, and how their nodes become cells.
 const SHAPES: [(&str, Shape, Mix); 11] = [
@@ -84,8 +85,8 @@ pub fn run(seed: u64) -> ExitCode {
 fn measure(seed: u64) -> ExitCode {
     println!("seed {seed}\n{NOTE}");
     println!(
-        "{:40}{:16}{:>10}{:>10}{:>9}{:>9}{:>8}",
-        "shape", "call", "cells in", "cells out", "here", "Rust", "ratio"
+        "{:40}{:16}{:>10}{:>10}{:>9}{:>9}{:>9}{:>9}{:>9}",
+        "shape", "call", "cells in", "cells out", "here", "Rust", "to Rust", "pair", "to pair"
     );
     let mut rng = Rng::new(seed);
     let mut bench = Bench::new();
@@ -118,6 +119,7 @@ struct Bench {
     oracle: Oracle,
     work: Vec<u32>,
     out: Vec<u32>,
+    lines: Vec<u32>,
 }
 
 impl Bench {
@@ -127,6 +129,7 @@ impl Bench {
             oracle: Oracle::default(),
             work: vec![1; work_words(items * CELL_WIDTH, 0)],
             out: vec![1; items * CELL_WIDTH],
+            lines: vec![1; items * LINE_WIDTH],
         }
     }
 
@@ -143,19 +146,58 @@ impl Bench {
         let mut info = [0; 3];
         let ours = best(|| calls::materialise(black_box(tree), work, out, &mut info));
         let theirs = best(|| black_box(&rust).materialize());
-        let count = info[1];
-        row.print("materialise", count, ours, theirs);
-        let listed = Handed {
-            cells: out[..count as usize * CELL_WIDTH].to_vec(),
-            words: Vec::new(),
-            ..*tree
+        row.print("materialise", info[1], ours, theirs, None);
+        self.list(&row, tree, &rust, info[1]);
+    }
+
+    /// List on a tree of so many cells when materialised, beside the Rust's materialise and walk and beside the pair of calls.
+    fn list(&mut self, row: &Row, tree: &Handed, rust: &Tree, count: u32) {
+        let (first, start) = (tree.first_repeat, tree.start);
+        let walked = |rust: &Tree| {
+            let materialised = rust.materialize();
+            let lines = lines(&materialised, first, start);
+            (materialised, lines)
         };
-        let materialised = rust.materialize();
-        let expected = lines(&materialised, tree.first_repeat, tree.start);
-        let ours = best(|| calls::list(black_box(&listed), work, out, &mut info));
-        assert_eq!(out[..expected.len()], expected, "the lines differ");
-        let theirs = best(|| lines(black_box(&materialised), tree.first_repeat, tree.start));
-        row.print("list", count, ours, theirs);
+        let (_, expected) = walked(rust);
+        let mut least = [f64::MAX; 3];
+        for _ in 0..REPEATS {
+            let ours = seconds(|| self.list_straight(tree));
+            self.hold(&expected);
+            let pair = seconds(|| self.list_materialised(tree));
+            self.hold(&expected);
+            let theirs = seconds(|| walked(black_box(rust)));
+            for (least, time) in least.iter_mut().zip([ours, theirs, pair]) {
+                *least = least.min(time * 1e9);
+            }
+        }
+        let [ours, theirs, pair] = least;
+        row.print("list", count, ours, theirs, Some(pair));
+    }
+
+    fn list_straight(&mut self, tree: &Handed) -> u32 {
+        calls::list(
+            black_box(tree),
+            &mut self.work,
+            &mut self.lines,
+            &mut [0; 3],
+        )
+    }
+
+    fn list_materialised(&mut self, tree: &Handed) -> u32 {
+        let Self {
+            work, out, lines, ..
+        } = self;
+        let mut info = [0; 3];
+        let number = calls::materialise(black_box(tree), work, out, &mut info);
+        let cells = &out[..info[1] as usize * CELL_WIDTH];
+        number + calls::list_of(tree, cells, &[], work, lines, &mut info)
+    }
+
+    /// Stops where other lines were written, and clears them.
+    fn hold(&mut self, expected: &[u32]) {
+        let written = &mut self.lines[..expected.len()];
+        assert_eq!(written, expected, "the lines differ");
+        written.fill(1);
     }
 
     /// The Rust's tree, on a node set without none in place 0 where `none_first` is 0, else on one with it.
@@ -180,7 +222,8 @@ impl Bench {
         }
         assert_eq!(found, balanced, "the balanced cells differ");
         let theirs = best(|| cells(&black_box(&rust).balance()));
-        row.print(Call::Balance(none_first).name(), info[1], ours, theirs);
+        let call = Call::Balance(none_first).name();
+        row.print(call, info[1], ours, theirs, None);
     }
 }
 
@@ -191,16 +234,20 @@ struct Row<'a> {
 }
 
 impl Row<'_> {
-    fn print(&self, call: &str, out: u32, ours: f64, theirs: f64) {
+    fn print(&self, call: &str, out: u32, ours: f64, theirs: f64, pair: Option<f64>) {
         let each = |nanoseconds: f64| nanoseconds / f64::from(out);
-        println!(
-            "{:40}{call:16}{:>10}{out:>10}{:>9.1}{:>9.1}{:>8.2}",
+        print!(
+            "{:40}{call:16}{:>10}{out:>10}{:>9.1}{:>9.1}{:>9.2}",
             self.shape,
             self.cells,
             each(ours),
             each(theirs),
             ours / theirs
         );
+        match pair {
+            Some(pair) => println!("{:>9.1}{:>9.2}", each(pair), ours / pair),
+            None => println!(),
+        }
     }
 }
 
