@@ -1,12 +1,14 @@
 //! The Rust's answers on lists and trees, as cases for antt.
 
-use std::collections::HashMap;
+use std::collections::{BTreeMap, HashMap};
 use std::fmt;
 use std::sync::Arc;
 
 use crate::NodeType;
 use crate::antt::{self, Case};
+use crate::calls::Call;
 use crate::flatten::{Flat, flatten, lines, outline};
+use crate::handed::model::{Handed, bad_cell};
 use crate::lists::List;
 use crate::none_first::NoneFirst;
 use crate::rezel::tree::{NodeSet, Tree, TreeChild};
@@ -22,6 +24,7 @@ pub enum Input {
     Deep(List, usize),
     Wide(Wide),
     Tree(Sample),
+    Call(Call),
 }
 
 /// Many empty records of one id and a list behind them, all in one record of the id `parent`, inside so many records of
@@ -34,6 +37,9 @@ pub struct Wide {
     pub id: u32,
     pub parent: u32,
 }
+
+/// What the words of an output hold before a call.
+const BEFORE: u64 = 7;
 
 /// The records around a deep list are at least this long: longer than a packed record can be.
 const LONG: u32 = 70_000;
@@ -48,6 +54,7 @@ impl fmt::Display for Input {
             }
             Self::Wide(wide) => write!(out, "{wide}"),
             Self::Tree(sample) => write!(out, "{sample}"),
+            Self::Call(call) => write!(out, "{call}"),
         }
     }
 }
@@ -79,6 +86,9 @@ pub struct Seen {
     balanced_trees: usize,
     /// Trees that balancing changes otherwise on the set with none in place 0.
     otherwise: usize,
+    /// Calls of list by the number that they are answered with, and those that are 15 by the start alone.
+    numbers: BTreeMap<u32, usize>,
+    late: usize,
 }
 
 impl fmt::Display for Seen {
@@ -90,6 +100,8 @@ impl fmt::Display for Seen {
             balanced_builds,
             balanced_trees,
             otherwise,
+            numbers,
+            late,
         } = self;
         write!(
             out,
@@ -97,7 +109,9 @@ impl fmt::Display for Seen {
         )?;
         write!(out, "{balanced_builds} lists with inner trees, ")?;
         write!(out, "{balanced_trees} trees that balancing changes, ")?;
-        write!(out, "{otherwise} otherwise with none in place 0")
+        write!(out, "{otherwise} otherwise with none in place 0, ")?;
+        write!(out, "calls of list by number {numbers:?}, ")?;
+        write!(out, "{late} of them 15 by the start alone")
     }
 }
 
@@ -117,6 +131,11 @@ impl Rust {
         Arc::clone(set.or_insert_with(|| node_set(types, none_first)))
     }
 
+    /// The sets of so few types that random trees are made of.
+    pub fn small_sets(&mut self) -> Vec<Arc<NodeSet>> {
+        (0..5).map(|types| self.set(types, false)).collect()
+    }
+
     /// The case of an input; none where the Rust panics, which is noted.
     pub fn case(&mut self, input: Input) -> Option<Case> {
         let claim = match &input {
@@ -124,6 +143,7 @@ impl Rust {
             Input::Deep(list, around) => self.deep(list, *around),
             Input::Wide(wide) => self.wide(wide),
             Input::Tree(sample) => Some(self.tree(sample)),
+            Input::Call(call) => Some(self.call(call)),
         };
         if claim.is_none() {
             self.wrong.push(format!("the Rust panics: {input}"));
@@ -137,7 +157,7 @@ impl Rust {
         guarded(|| Tree::build(&build)).ok()
     }
 
-    /// A run on a list: build, materialise, list.
+    /// Both runs on a list: build, materialise, list; and build, list.
     fn list(&mut self, list: &List) -> Option<String> {
         let records = list.records();
         let tree = self.build(list, records.clone())?;
@@ -172,7 +192,7 @@ impl Rust {
         self.seen.balanced_builds += usize::from(nesting > 1);
     }
 
-    /// A run on a list below the depth where parts are flat.
+    /// A run on a list below the depth where parts are flat, and the lines by depths from there on.
     fn deep(&mut self, list: &List, around: usize) -> Option<String> {
         let end = end_around(list);
         let mut records = list.records();
@@ -182,15 +202,21 @@ impl Rust {
         let flat = flatten(&tree);
         let materialised = tree.materialize();
         let listed = lines(&materialised, list.first_repeat, 0);
+        let behind = &listed[(around - 1) * LINE_WIDTH..];
+        let from_there = behind.chunks(LINE_WIDTH).flat_map(|line| {
+            let depth = line[0] + 1 - around as u64;
+            [depth, line[1], line[2], line[3]]
+        });
         Some(format!(
-            "deep-answer {} {} {around} {end} {}\n    ≡ {} ∷ {} ∷ {} ∷ {} ∷ []",
+            "deep-answer {} {} {around} {end} {}\n    ≡ {} ∷ {} ∷ {} ∷ {} ∷ {} ∷ []",
             list.first_repeat,
             list.bound,
             antt::list(list.records()),
             antt::list(behind_chain(&flat, around, end)),
             antt::list(&flat.words),
             antt::list(behind_chain(&flatten(&materialised), around, end)),
-            antt::list(&listed[(around - 1) * LINE_WIDTH..]),
+            antt::list(behind),
+            antt::list(from_there),
         ))
     }
 
@@ -221,7 +247,7 @@ impl Rust {
         ))
     }
 
-    /// A tree as it is, balanced on a set without none in place 0 and on one with it, materialised, and then listed.
+    /// A tree as it is, balanced on a set without none in place 0 and on one with it, materialised, and its lines.
     fn tree(&mut self, sample: &Sample) -> String {
         let flat = flatten(&sample.tree);
         let balanced = flatten(&sample.tree.balance());
@@ -241,6 +267,35 @@ impl Rust {
             antt::list(&none_first.words),
             antt::list(&flatten(&materialised).cells),
             antt::list(lines(&materialised, first, start)),
+        )
+    }
+
+    /// A call of list: the plain model's number and place, and the Rust's lines where it is accepted.
+    fn call(&mut self, call: &Call) -> String {
+        let Handed {
+            types,
+            first_repeat,
+            start,
+            cells,
+            words,
+        } = &call.tree;
+        let (verdict, mut written) = call.answer(&self.small_sets());
+        *self.seen.numbers.entry(verdict.number).or_default() += 1;
+        let from_0 = bad_cell(*types, 0, cells, words);
+        self.seen.late += usize::from(verdict.number == 15 && from_0.is_none());
+        let mut told = vec![verdict.number, verdict.place];
+        if verdict.number == 0 {
+            told.push(verdict.counts[0]);
+        }
+        written.resize(call.room, BEFORE);
+        format!(
+            "call-answer {types} {first_repeat} {start} {} {} {} {}\n    ≡ {} ∷ {} ∷ []",
+            antt::list(cells),
+            antt::list(words),
+            call.work,
+            antt::list(vec![BEFORE; call.room]),
+            antt::list(told),
+            antt::list(written),
         )
     }
 }

@@ -3,6 +3,7 @@
 
 mod answers;
 mod antt;
+mod calls;
 mod flatten;
 mod forests;
 mod lists;
@@ -23,6 +24,20 @@ mod shim;
 #[allow(dead_code)]
 #[path = "../widths.rs"]
 mod widths;
+
+// The plain model of the part check, and trees that are handed in as cells, with the model of their rules.
+#[allow(dead_code)]
+#[path = "../parts"]
+mod parts {
+    pub mod model;
+}
+#[allow(dead_code)]
+#[path = "../trees"]
+mod handed {
+    pub mod damage;
+    pub mod model;
+    pub mod rust_trees;
+}
 
 // The names that the Rust sources expect at the root of their crate.
 pub use rezel::root::*;
@@ -46,6 +61,8 @@ struct Options {
     /// Lists with some 16,383 empty records.
     wide: usize,
     trees: usize,
+    /// Calls of list on trees as cells, some of which are refused.
+    calls: usize,
     folder: PathBuf,
     /// The repository whose definitions are compared.
     repository: PathBuf,
@@ -58,6 +75,7 @@ fn read_options() -> Result<Options, String> {
         deep: 50,
         wide: 8,
         trees: 400,
+        calls: 400,
         folder: PathBuf::from("target/differential/definitions"),
         repository: PathBuf::from("."),
     };
@@ -68,6 +86,7 @@ fn read_options() -> Result<Options, String> {
             "--deep" => all.deep = given.number()?,
             "--wide" => all.wide = given.number()?,
             "--trees" => all.trees = given.number()?,
+            "--calls" => all.calls = given.number()?,
             "--folder" => all.folder = given.path(),
             "--repository" => all.repository = given.path(),
             _ => return given.unknown(),
@@ -110,13 +129,15 @@ fn compare(options: &Options) -> io::Result<ExitCode> {
 /// The cases by the names of their files.
 fn cases(options: &Options, rust: &mut Rust) -> Vec<(&'static str, Vec<Case>)> {
     let rng = &mut Rng::new(options.seed);
-    let sets: Vec<_> = (0..5).map(|types| rust.set(types, false)).collect();
+    let sets = rust.small_sets();
     let lists = Vec::from_iter((0..options.lists).map(|_| Input::List(lists::random(rng))));
     let deep = Vec::from_iter((0..options.deep).map(|_| deep(rng)));
     let wide = limits().chain(std::iter::repeat_with(|| wide(rng)));
     let wide = Vec::from_iter(wide.take(options.wide).map(Input::Wide));
     let trees = (0..options.trees).map(|_| Input::Tree(trees::random(rng, &sets)));
     let trees = Vec::from_iter(trees);
+    let calls = (0..options.calls).map(|_| Input::Call(calls::random(rng, &sets)));
+    let calls = Vec::from_iter(calls);
     let mut made = |inputs: Vec<Input>| {
         let cases = inputs.into_iter().filter_map(|input| rust.case(input));
         cases.collect()
@@ -126,6 +147,7 @@ fn cases(options: &Options, rust: &mut Rust) -> Vec<(&'static str, Vec<Case>)> {
         ("Deep", made(deep)),
         ("Wide", made(wide)),
         ("Trees", made(trees)),
+        ("Calls", made(calls)),
     ]
 }
 
@@ -196,8 +218,8 @@ fn report(options: &Options, rust: &Rust, found: &[Difference]) -> ExitCode {
     let unknown = found.iter().filter(|it| it.unknown).count();
     let differ = found.len() - unknown + rust.wrong.len();
     println!(
-        "{} lists (and {} deep, {} wide ones) and {} trees: {differ} differ, {unknown} not computed",
-        options.lists, options.deep, options.wide, options.trees
+        "{} lists (and {} deep, {} wide ones), {} trees and {} calls of list: {differ} differ, {unknown} not computed",
+        options.lists, options.deep, options.wide, options.trees, options.calls
     );
     match (differ, unknown) {
         (0, 0) => ExitCode::SUCCESS,

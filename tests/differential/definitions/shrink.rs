@@ -7,7 +7,7 @@ use crate::rezel::tree::{Tree, TreeChild};
 use crate::trees::Sample;
 use crate::widths::RECORD_WIDTH;
 
-/// All inputs one step smaller, the smallest first.
+/// All inputs one step smaller, the smallest first; none of a call.
 pub fn smaller(input: &Input) -> Vec<Input> {
     let mut all: Vec<Input> = match input {
         Input::List(list) => lists(list).map(Input::List).collect(),
@@ -27,17 +27,19 @@ pub fn smaller(input: &Input) -> Vec<Input> {
             });
             samples.map(Input::Tree).collect()
         }
+        Input::Call(_) => Vec::new(),
     };
     all.sort_by_key(size);
     all
 }
 
-/// Records, or trees and parts.
+/// Records, or trees and parts, or words of a call.
 pub fn size(input: &Input) -> usize {
     match input {
         Input::List(list) | Input::Deep(list, _) => count(&list.forest),
         Input::Wide(wide) => wide.empties + count(&wide.list.forest),
         Input::Tree(sample) => tree_size(&sample.tree),
+        Input::Call(call) => call.tree.cells.len() + call.tree.words.len(),
     }
 }
 
