@@ -56,6 +56,13 @@
 extern "C" {
 #endif
 
+/* The version of these declarations, and what changed in it. Nothing tests it when a program is linked.
+ *
+ *   2: hulwyth_list takes the packed words behind the cells and lists trees with packed parts; a program compiled against version
+ *      1 links and misreads
+ */
+#define HULWYTH_VERSION 2
+
 /* How many words a record of a list or of a packed part, a cell and a line have, and the places of a cell's words. */
 enum {
     HULWYTH_RECORD_WIDTH = 4,
@@ -118,7 +125,7 @@ uint32_t hulwyth_check(uint32_t types, uint32_t first_repeat, uint32_t bound, ui
  * to 10, 12, 13.
  *
  * A list that is nested deeper than 2,503 levels may lose records: inside 2,502 trees, each in the next, and the top around them,
- * only records without children are kept. So the listing of what was built and materialised is the list's ordinary reading for
+ * only records without children are kept. So the listing of what was built, materialised or not, is the list's ordinary reading for
  * lists of at most 2,503 levels.
  *
  * types         T
@@ -164,7 +171,7 @@ uint32_t hulwyth_build(uint32_t types, uint32_t first_repeat, uint32_t bound, ui
  *   12  there is too little room for the cells of the result, or it has more than 4,294,967,295 of them; in hulwyth_balance also:
  *       there are more than 44,739,241 items
  *   13  there is too little room for the packed words of the result (hulwyth_balance)
- *   14  there is too little room for the lines (hulwyth_list)
+ *   14  there is too little room for the lines, or there are more than 4,294,967,295 of them (hulwyth_list)
  *
  * The rules: kind and id are as above. Cell 1 is the top, of kind 1, at position 0, without a next. A first child is the next cell;
  * next names the cell after a cell's last descendant; a cell has count children; each cell but the top is the child of one cell. A
@@ -227,24 +234,27 @@ uint32_t hulwyth_balance(uint32_t types, uint32_t none_first, const uint32_t *ce
                          uint32_t *out, size_t out_len, uint16_t *packed, size_t packed_len,
                          uint32_t *info, size_t info_len);
 
-/* Lists a tree without packed parts: a line of depth, id, start and end for each node but the top, repeat trees and trees of no
- * type, parents first. The depth counts the listed nodes around it. First count: the lines. Refusals 1, 11, 15, 14.
+/* Lists a tree: a line of depth, id, start and end for each tree and each packed record, the top, repeat ids and trees of no type
+ * left out, parents first. The depth counts the listed nodes around it. The lines are those of the cells that hulwyth_materialise
+ * writes. First count: the lines. Refusals 1, 11, 15, 14.
  *
  * types         T
- * first_repeat  F: ids from F up are repeat trees
- * start         S, added to every start and end
- * cells         the cells; none is of kind 2 (15)
+ * first_repeat  F: ids from F up are repeat ids
+ * start         S, added to every start and end; 15 counts the ends of the cells from it, a packed part's by its own length
+ * cells         the cells
  * cells_len     their words
+ * words         the packed words
+ * words_len     how many
  * work          scratch space
- * work_len      its words: 96 for each cell, and 96
+ * work_len      its words: 96 for each item, and 96
  * lines         HULWYTH_LINE_WIDTH words a line
- * lines_len     its words: HULWYTH_LINE_WIDTH for each line; there are fewer lines than cells
+ * lines_len     its words: HULWYTH_LINE_WIDTH for each line; there are fewer lines than items
  * info          place and counts
  * info_len      its words
  */
 uint32_t hulwyth_list(uint32_t types, uint32_t first_repeat, uint32_t start, const uint32_t *cells, size_t cells_len,
-                      uint32_t *work, size_t work_len, uint32_t *lines, size_t lines_len,
-                      uint32_t *info, size_t info_len);
+                      const uint16_t *words, size_t words_len, uint32_t *work, size_t work_len,
+                      uint32_t *lines, size_t lines_len, uint32_t *info, size_t info_len);
 
 /* Packed parts
  *

@@ -1,7 +1,8 @@
 /* The gateway's shape: makes each of the eight calls on document 01's examples, and balances and lists one more tree on a node set
- * without none in place 0 and on one with it. The slices are its own. It prints what each call gives: a line with the number, the
- * place and the counts, and under it what the call wrote. With the argument `short` the work slice of a call is one word short of
- * what it asks for; the program then stops after the first call, with status 1. */
+ * without none in place 0 and on one with it. What was built is listed as it is, and once more when it is materialised. The slices
+ * are its own. It prints what each call gives: a line with the number, the place and the counts, and under it what the call wrote.
+ * With the argument `short` the work slice of a call is one word short of what it asks for; the program then stops after the first
+ * call, with status 1. */
 #include <inttypes.h>
 #include <stdio.h>
 #include <string.h>
@@ -96,12 +97,12 @@ static int materialise(const struct tree *tree, struct tree *made, size_t held_b
     return 1;
 }
 
-static int list(const struct tree *tree, size_t held_back)
+static int list(const struct tree *tree, uint32_t start, size_t held_back)
 {
-    uint32_t work[WORK(CELLS)], lines[HULWYTH_LINE_WIDTH * CELLS], info[3];
-    size_t lent = WORK(tree->cell_count) - held_back;
-    uint32_t number = hulwyth_list(tree->types, tree->types, START, tree->cells, HULWYTH_CELL_WIDTH * tree->cell_count, work, lent,
-                                   lines, HULWYTH_LINE_WIDTH * CELLS, info, 3);
+    uint32_t work[WORK(CELLS + RECORDS)], lines[HULWYTH_LINE_WIDTH * (CELLS + RECORDS)], info[3];
+    size_t lent = WORK(tree->cell_count + tree->word_count / HULWYTH_RECORD_WIDTH) - held_back;
+    uint32_t number = hulwyth_list(tree->types, tree->types, start, tree->cells, HULWYTH_CELL_WIDTH * tree->cell_count, tree->words,
+                                   tree->word_count, work, lent, lines, HULWYTH_LINE_WIDTH * (CELLS + RECORDS), info, 3);
     if (!accepted("list", number, info))
         return 0;
     print_rows(lines, info[1], HULWYTH_LINE_WIDTH);
@@ -165,7 +166,8 @@ static int balance_nine(uint32_t none_first, size_t held_back)
 {
     struct tree tree, balanced, made;
     nine(&tree);
-    return balance(&tree, none_first, &balanced, held_back) && materialise(&balanced, &made, held_back) && list(&made, held_back);
+    return balance(&tree, none_first, &balanced, held_back) && materialise(&balanced, &made, held_back)
+           && list(&made, START, held_back);
 }
 
 static int balance_leaves(uint32_t count, size_t held_back)
@@ -205,7 +207,13 @@ int main(int argc, char **argv)
     struct tree tree, made;
     size_t held_back = argc > 1 && strcmp(argv[1], "short") == 0;
 
-    if (!check(held_back) || !build(&tree, held_back) || !materialise(&tree, &made, held_back) || !list(&made, held_back))
+    if (!check(held_back) || !build(&tree, held_back) || !list(&tree, START, held_back))
+        return 1;
+    if (!materialise(&tree, &made, held_back) || !list(&made, START, held_back))
+        return 1;
+    /* From this start the part, cell 2, ends at the last position; from the next one it is refused. */
+    uint32_t last = UINT32_MAX - tree.cells[HULWYTH_CELL_WIDTH + HULWYTH_LENGTH];
+    if (!list(&tree, last, held_back) || list(&tree, last + 1, held_back))
         return 1;
     if (!balance_leaves(LEAVES - 1, held_back) || !balance_leaves(LEAVES, held_back))
         return 1;

@@ -57,7 +57,8 @@ static void balance(void)
 
 static void list(void)
 {
-    number = hulwyth_list(4, 4, 0, cells, HULWYTH_CELL_WIDTH * cell_count, work, work_len, out, cells_len, info, 3);
+    number = hulwyth_list(4, 4, 0, cells, HULWYTH_CELL_WIDTH * cell_count, words, word_count, work, work_len, out, cells_len, info,
+                          3);
 }
 
 static void part_check(void)
@@ -238,6 +239,7 @@ static void measure_part(uint32_t count)
     cell_part(count);
     measure("materialise", materialise, OTHER);
     measure("balance", balance, BALANCE);
+    measure("list", list, OTHER);
     measure("part check", part_check, PART);
     measure("part slice", part_slice, PART);
     measure("part search", part_search, PART);
