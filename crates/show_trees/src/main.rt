@@ -1,5 +1,7 @@
-// Materialises and lists the trees of document 01's records P with b 1,024, 5 and 1, and a tree that is refused; then trees with nodes
-// of id 0, balanced on a set without none and on one whose place 0 is none. Each line of a listing is depth, id, start and end.
+// Lists the trees of document 01's records P with b 1,024, 5 and 1, each straight and after materialising, and trees that are refused; then
+// trees at the limits of listing; then trees with nodes of id 0, balanced on a set without none and on one whose place 0 is none. Each
+// line of a listing is depth, id, start and end.
+mod limits;
 mod sets;
 mod show;
 
@@ -16,10 +18,10 @@ const THREE: usize = 3 * CELL_WIDTH;
 
 const LINES: usize = 3 * LINE_WIDTH;
 
-// Materialises a tree of P's into cells, and lists them.
+// Lists a tree of P's straight, then the cells that materialise writes of it.
 fn show_p(cells: &[u32], words: &[u16], start: u32, out: &mut [u32]) {
     let mut lines = [9u32; LINES];
-    show::materialise_and_list(TYPES, TYPES, start, cells, words, out, &mut lines);
+    show::list_both(TYPES, TYPES, start, cells, words, out, &mut lines);
 }
 
 fn main() {
@@ -33,6 +35,13 @@ fn main() {
         &[1, 0, 0, 6, 2, 1, 0, 2, 0, 0, 6, 0, 12, 0],
         &packed,
         0,
+        &mut out,
+    );
+    show::print(b"P with b 1,024, from 10\n");
+    show_p(
+        &[1, 0, 0, 6, 2, 1, 0, 2, 0, 0, 6, 0, 12, 0],
+        &packed,
+        10,
         &mut out,
     );
     show::print(b"P with b 5\n");
@@ -114,5 +123,6 @@ fn main() {
         0,
         &mut short,
     );
+    limits::run();
     sets::run();
 }

@@ -28,9 +28,9 @@ fn packed_record() {
     let mut lines = [9u32; TWO];
     let mut none: [u32; 0] = [];
     show::print(b"A packed record of id 0, first repeat id 2\n");
-    show::materialise_and_list(TYPES, TYPES, 0, &cells, &words, &mut out, &mut lines);
+    show::list_both(TYPES, TYPES, 0, &cells, &words, &mut out, &mut lines);
     show::print(b"A packed record of id 0, first repeat id 0\n");
-    show::materialise_and_list(TYPES, 0, 0, &cells, &words, &mut out, &mut none);
+    show::list_both(TYPES, 0, 0, &cells, &words, &mut out, &mut none);
 }
 
 // A top of id 1 with eight leaves of id 1, and a ninth child of id 0 that holds three leaves of kind 3.
@@ -140,10 +140,10 @@ fn balanced() {
     let mut eight = [9u32; EIGHT];
     show::print(b"A ninth child of id 0 over three of kind 3, place 0 of the set is not none\n");
     show::balance(TYPES, false, &NINTH_OF_ID_0, &mut same);
-    show::materialise_and_list(TYPES, TYPES, 0, &same, &none, &mut again, &mut nine);
+    show::list_both(TYPES, TYPES, 0, &same, &none, &mut again, &mut nine);
     show::print(b"The same tree, place 0 of the set is none\n");
     show::balance(TYPES, true, &NINTH_OF_ID_0, &mut divided);
-    show::materialise_and_list(TYPES, TYPES, 0, &divided, &none, &mut out, &mut eight);
+    show::list_both(TYPES, TYPES, 0, &divided, &none, &mut out, &mut eight);
 }
 
 pub fn run() {

@@ -46,16 +46,17 @@ fn print_count(text: &[u8], count: usize) {
     print(b"\n");
 }
 
-// Lists a tree without packed parts: the lines fill the slice that is lent for them.
-fn list(
+// Lists a tree: the lines fill the slice that is lent for them.
+pub fn list_with(
     types: u32,
     first_repeat: u32,
     start: u32,
     cells: &[u32],
+    words: &[u16],
     work: &mut [u32],
     lines: &mut [u32],
 ) {
-    let answer = listing::list(types, first_repeat, start, cells, work, lines);
+    let answer = listing::list(types, first_repeat, start, cells, words, work, lines);
     match answer {
         Listed::Lines(count) => {
             print_count(b"lines ", count);
@@ -65,8 +66,21 @@ fn list(
     }
 }
 
-// Materialises a tree into cells, which fill the slice that is lent for them, and lists them.
-pub fn materialise_and_list(
+// The same, with work enough for 17 items.
+pub fn list(
+    types: u32,
+    first_repeat: u32,
+    start: u32,
+    cells: &[u32],
+    words: &[u16],
+    lines: &mut [u32],
+) {
+    let mut work = [9u32; 1728];
+    list_with(types, first_repeat, start, cells, words, &mut work, lines);
+}
+
+// Materialises a tree into cells, which fill the slice that is lent for them, and lists these, which have no packed words.
+fn materialise_and_list(
     types: u32,
     first_repeat: u32,
     start: u32,
@@ -75,15 +89,33 @@ pub fn materialise_and_list(
     out: &mut [u32],
     lines: &mut [u32],
 ) {
+    let none: [u16; 0] = [];
     let mut work = [9u32; 1728];
     let answer = materialize::materialize(types, cells, words, &mut work, out);
     match answer {
         Materialized::Cells(count) => {
-            print_count(b"cells ", count);
-            list(types, first_repeat, start, out, &mut work, lines);
+            print_count(b"materialised cells ", count);
+            list(types, first_repeat, start, out, &none, lines);
         }
-        Materialized::Refused(number, place) => print_refusal(number, place),
+        Materialized::Refused(number, place) => {
+            print(b"materialise ");
+            print_refusal(number, place);
+        }
     }
+}
+
+// Lists a tree straight, then in two calls: the lines are the same.
+pub fn list_both(
+    types: u32,
+    first_repeat: u32,
+    start: u32,
+    cells: &[u32],
+    words: &[u16],
+    out: &mut [u32],
+    lines: &mut [u32],
+) {
+    list(types, first_repeat, start, cells, words, lines);
+    materialise_and_list(types, first_repeat, start, cells, words, out, lines);
 }
 
 // Balances a tree without packed parts into cells, which fill the slice that is lent for them, and prints them.
