@@ -3,8 +3,8 @@
 //   call T F S room n m cells words
 // where call is 1 for materialise, 2 for listing and 3 for balancing, T the number of types, F the first repeat id, S the start
 // of a listing, room the number of words that the output has, which hold 7 before, n that of the cells' words and m that of the
-// packed words. Materialise uses no F and S, listing no packed words. For balance F says whether place 0 of the set is none, 0 that it
-// is not, and S is not used; it has a second output of m packed words.
+// packed words. Materialise uses no F and S. For balance F says whether place 0 of the set is none, 0 that it is not, and S is not used; it
+// has a second output of m packed words.
 // n is at most 700, m at most 400 and room at most 1,400; a packed word has 16 bits and every other number 32. The whole text
 // is at most 1 MiB. Any other line is a bad one.
 ghost use mathlib.Core.Path.{_≡_};
@@ -110,10 +110,18 @@ fn answer_materialise(types: u32, cells: &[u32], words: &[u16], work: &mut [u32]
     }
 }
 
-fn answer_list(given: &[u32], work: &mut [u32], out: &mut [u32])
+fn answer_list(given: &[u32], words: &[u16], work: &mut [u32], out: &mut [u32])
     requires { ⌜ 7 ≤ length (now given) ⌝ }
 {
-    let answer = listing::list(given[1], given[2], given[3], &given[HEAD..], work, out);
+    let answer = listing::list(
+        given[1],
+        given[2],
+        given[3],
+        &given[HEAD..],
+        words,
+        work,
+        out,
+    );
     match answer {
         Listed::Lines(count) => {
             text::print(b"lines ");
@@ -139,7 +147,7 @@ fn answer_call(given: &[u32], words: &[u16], work: &mut [u32], out: &mut [u32])
         answer_materialise(given[1], &given[HEAD..], words, work, out);
         return;
     }
-    answer_list(given, work, out);
+    answer_list(given, words, work, out);
 }
 
 // The same, with as much of the output as the call is lent, which is shown afterwards; false where there is no such call.
