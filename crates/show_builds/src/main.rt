@@ -7,7 +7,6 @@ use balance::Balanced;
 use build::Built;
 use build::Given;
 use listing::Listed;
-use materialize::Materialized;
 use tree::CELL_WIDTH;
 use tree::COUNT;
 use tree::LINE_WIDTH;
@@ -128,38 +127,26 @@ fn build_front(
     build_list(numbers, &records[..count], work, cells, words)
 }
 
-// Lists a tree without packed parts: how many lines, 0 where the call is refused.
-fn list_cells(numbers: Numbers, cells: &[u32], work: &mut [u32], lines: &mut [u32]) -> usize {
+// Lists a tree: how many lines, 0 where the call is refused.
+fn list_tree(
+    numbers: Numbers,
+    cells: &[u32],
+    words: &[u16],
+    work: &mut [u32],
+    lines: &mut [u32],
+) -> usize {
     let listed = listing::list(
         numbers.types,
         numbers.first_repeat,
         numbers.start,
         cells,
+        words,
         work,
         lines,
     );
     match listed {
         Listed::Lines(count) => count,
         Listed::Refused(_, _) => 0,
-    }
-}
-
-// Materialises a tree and lists the result: how many lines, 0 where one of the calls is refused.
-fn list_tree(
-    numbers: Numbers,
-    cells: &[u32],
-    words: &[u16],
-    work: &mut [u32],
-    out: &mut [u32],
-    lines: &mut [u32],
-) -> usize {
-    let answer = materialize::materialize(numbers.types, cells, words, work, out);
-    match answer {
-        Materialized::Cells(count) => {
-            let size = show::cell_words(count, out.len());
-            list_cells(numbers, &out[..size], work, lines)
-        }
-        Materialized::Refused(_, _) => 0,
     }
 }
 
@@ -170,12 +157,11 @@ fn list_built(
     cells: &[u32],
     words: &[u16],
     work: &mut [u32],
-    out: &mut [u32],
     lines: &mut [u32],
 ) -> usize {
     let size = show::cell_words(answer.cells, cells.len());
     let packed = show::within(answer.words, words.len());
-    list_tree(numbers, &cells[..size], &words[..packed], work, out, lines)
+    list_tree(numbers, &cells[..size], &words[..packed], work, lines)
 }
 
 // A small list with the cells and packed words that it makes, and its listing.
@@ -190,7 +176,6 @@ fn show_list(
 ) {
     let mut cells = [BEFORE; CELL_ROOM];
     let mut words = [PACKED_BEFORE; PACKED_ROOM];
-    let mut out = [BEFORE; CELL_ROOM];
     let mut lines = [BEFORE; LINE_ROOM];
     show::print(what);
     let answer = build_list(numbers, records, work, &mut cells, &mut words);
@@ -201,7 +186,7 @@ fn show_list(
         CELL_WIDTH,
     );
     show::print_packed(&words, answer.words);
-    let came = list_built(numbers, answer, &cells, &words, work, &mut out, &mut lines);
+    let came = list_built(numbers, answer, &cells, &words, work, &mut lines);
     show::expect_lines(came, listed);
     show::print_words(&lines, show::line_words(came, LINE_ROOM), LINE_WIDTH);
 }
@@ -355,14 +340,13 @@ fn show_chain(
     kind: u32,
     work: &mut [u32],
     cells: &mut [u32],
-    out: &mut [u32],
     lines: &mut [u32],
 ) {
     let mut words = [0u16; 4];
     let answer = build_front(plain(1024), records, size, work, cells, &mut words);
     expect_counts(answer, 2504, packed);
     expect_last(cells, kind);
-    let came = list_built(plain(1024), answer, cells, &words, work, out, lines);
+    let came = list_built(plain(1024), answer, cells, &words, work, lines);
     show::expect_lines(came, 2503);
 }
 
@@ -370,7 +354,6 @@ fn show_chain(
 fn chain(size: usize, end: u32, packed: usize, kind: u32, work: &mut [u32]) {
     let mut records = lists::line_room();
     let mut cells = lists::cell_room();
-    let mut out = lists::cell_room();
     let mut lines = lists::line_room();
     show::print(b"A chain of ");
     show::print_number((size / RECORD_WIDTH) as u64);
@@ -378,16 +361,7 @@ fn chain(size: usize, end: u32, packed: usize, kind: u32, work: &mut [u32]) {
     show::print_number(show::wide(end));
     show::print(b", b 1024");
     lists::put_chain(&mut records, end);
-    show_chain(
-        &records,
-        size,
-        packed,
-        kind,
-        work,
-        &mut cells,
-        &mut out,
-        &mut lines,
-    );
+    show_chain(&records, size, packed, kind, work, &mut cells, &mut lines);
 }
 
 fn chains(work: &mut [u32]) {

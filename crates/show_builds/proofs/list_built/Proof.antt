@@ -22,5 +22,4 @@ list-built-spec =
     (λ c κs. search needs)
     (λ c. search needs)
     (λ c. search needs)
-    (λ c. search needs)
     (λ c. search needs))
