@@ -12,7 +12,7 @@ use Rattle.tree.specs.Calls.{list-cells}
 use Rattle.words.specs.Words.{put, front}
 use Rattle.words.proofs.Runs.{Fronted, fronted-none, fronted-length, fronted-next, fronted-all}
 use Rattle.rules.proofs.PartRead.{short-parts}
-use Rattle.part_lines.specs.Steps as part
+use Rattle.part_lines.proofs.Counts.{length-listed}
 use Rattle.listing.specs.Steps.{is-listed, own-line, cell-lines, lines-from, noted, child-of, links-noted, Ready, Part-ready, Cell-ready, Lent}
 use Rattle.listing.proofs.Lines.{lines-other, lines-part}
 use Rattle.listing.proofs.Turns.{State, Turn, Part-here, turn, state-end, noted-length}
@@ -147,7 +147,7 @@ module _ {F S : ℕ} (cs ws : List ℕ) {n size : ℕ} (out₀ : List ℕ) {out 
     part-ready : cell-kind cs i ≡ 2 → Part-ready F cs ws i q d size (n * 2) (length out) at
     part-ready is =
         let here : Part-here T cs ws i = found .packed-here is in
-        let same = ap length (lines-part F cs ws i q d is) in
+        let same = ap length (lines-part F cs ws i q d is) ∙ length-listed F (q + cell-position cs i) d (part-at cs ws i) in
         record {
           is = is;
           ready = ready-here;
@@ -155,7 +155,7 @@ module _ {F S : ℕ} (cs ws : List ℕ) {n size : ℕ} (out₀ : List ℕ) {out 
           lent = record {
             types = T;
             len = cell-length cs i;
-            parts = short-parts T (q + cell-position cs i) (cell-length cs i) (part-at cs ws i) (here .short) (here .kept);
+            parts = λ at′. short-parts T at′ (cell-length cs i) (part-at cs ws i) (here .short) (here .kept);
             ends = found .ends;
             work-fits = omega (arith, here .few, lent .work-fits);
             lines-fit = omega (arith, same, split, fills, lent .lines-fit, out-length);

@@ -13,7 +13,8 @@ use Rattle.words.proofs.Runs.{four-at, Fronted, fronted-length, fronted-next, f
 use Rattle.records.specs.Forest.{line}
 use Rattle.tree.proofs.PartForms.{open-ends}
 use Rattle.tree.proofs.MaterialiseLaws.{part-lines, lines-step, part-listing}
-use Rattle.part_lines.specs.Steps.{listed-part, still-open, Lent}
+use Rattle.part_lines.specs.Steps.{listed-in, listed-part, still-open, Lent}
+use Rattle.part_lines.proofs.Counts.{length-listed}
 use Rattle.part_lines.proofs.Ends.{ends-held, length-ends, ends-open, still-few, ends-push, Within, parts-within}
 
 -- a list written from an offset on, as a front
@@ -56,7 +57,7 @@ module _ {F p d from at : ℕ} {ws : List ℕ} (out₀ held₀ : List ℕ) (lent
 
   all-is : all ≡ listed-part F p d ws
   unfolding listed-part
-  all-is = part-listing F d (lent .types) p (lent .len) ws (lent .parts)
+  all-is = part-listing F d (lent .types) p (lent .len) ws (lent .parts p)
 
   pub walk-first : Walk F p d from at (lent .len) ws out₀ held₀ out₀ held₀ 0 0 from
   unfolding ends-held
@@ -67,7 +68,7 @@ module _ {F p d from at : ℕ} {ws : List ℕ} (out₀ held₀ : List ℕ) (lent
       joined = refl;
       holds = sym (take-append-drop from out₀);
     };
-    within = parts-within (lent .types) p (lent .len) ws (lent .parts);
+    within = parts-within (lent .types) p (lent .len) ws (lent .parts p);
     few = le-refl 0;
     deep = omega arith;
     kept = refl;
@@ -79,12 +80,12 @@ module _ {F p d from at : ℕ} {ws : List ℕ} (out₀ held₀ : List ℕ) (lent
     rest = part-lines F p d (i * 4) (ends-held held at top) (drop (i * 4) ws)
 
     -- what is written and what is still to be written have room
-    fills : to + length rest ≡ from + length (listed-part F p d ws)
+    fills : to + length rest ≡ from + listed-in F ws * 4
     fills =
         let f = w .written in
         let a = sym (length-append (f .done) rest) ∙ ap length (f .joined) in
         let b = length-append (take from out₀) all ∙ ap₂ (λ (x y : ℕ). x + y) (length-take-le from out₀ (omega (arith, lent .lines-fit))) (ap length all-is) in
-        omega (arith, a, b, f .size)
+        omega (arith, a, b, f .size, length-listed F p d ws)
 
     pub out-length : length out ≡ length out₀
     out-length = fronted-length (take from out₀ ++ all) out₀ out rest to (w .written) (omega (arith, fills, lent .lines-fit))
@@ -93,7 +94,7 @@ module _ {F p d from at : ℕ} {ws : List ℕ} (out₀ held₀ : List ℕ) (lent
     pub walk-end : length ws < i * 4 + 4 → (to ≡ from + length (listed-part F p d ws)) × (out ≡ put out₀ from (listed-part F p d ws)) × (take at held ≡ take at held₀)
     walk-end l =
         let e : rest ≡ [] = no-record F p d (drop (i * 4) ws) (omega (arith, length-drop (i * 4) ws)) (i * 4) (ends-held held at top) in (
-          omega (arith, fills, ap length e),
+          omega (arith, fills, ap length e, length-listed F p d ws),
           fronted-all (take from out₀ ++ all) out₀ out rest to (w .written) e ∙ put-front out₀ from all (omega (arith, lent .lines-fit)) ∙ ap (put out₀ from) all-is,
           w .kept,
         )

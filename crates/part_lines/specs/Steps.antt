@@ -28,13 +28,13 @@ unfoldable pub still-open : (held : List ℕ) (at off top : ℕ) → ℕ
 still-open held at off zero = 0
 still-open held at off (suc t) = cond (ltb off (getD held (at + t) 0)) (suc t) (still-open held at off t)
 
--- The part keeps the rules for parts, for some type count and length, and its end fits 32 bits; there is a word of the work slice for each
--- record, room for the lines, and the depth of each fits 32 bits.
+-- The part keeps the rules for parts, for some type count and length, wherever it starts, and its end fits 32 bits; there is a word of the
+-- work slice for each record, room for the lines, and the depth of each fits 32 bits.
 pub record Lent (F p d : ℕ) (ws : List ℕ) (work at room from : ℕ) : Type 0 where
   pub types : ℕ
   pub len : ℕ
-  pub parts : Parts types p len ws
+  pub parts : (q : ℕ) → Parts types q len ws
   pub ends : p + len ≤ 4294967295
   pub work-fits : at + length ws / record-width ≤ work
-  pub lines-fit : from + length (listed-part F p d ws) ≤ room
-  pub shallow : d * 4 + length (listed-part F p d ws) ≤ 17179869180
+  pub lines-fit : from + listed-in F ws * 4 ≤ room
+  pub shallow : d * 4 + listed-in F ws * 4 ≤ 17179869180

@@ -2,7 +2,7 @@
 use denote.Ref.{now}
 use mathlib.Core.Path.{_≡_, sym, ap, _∙_}
 use mathlib.Core.List.{List}
-use Prim.Native.Nat.{ℕ, _+_, _-_}
+use Prim.Native.Nat.{ℕ, _+_, _-_, _≤_}
 use native.Mathlib.Omega.{arith}
 use lib.ListN.{length, take, drop}
 use Rattle.words.specs.Words.{put}
@@ -37,8 +37,12 @@ module _ (c : tie.After-index2) where
   cut-is : part₁ ≡ part-at cs₁ ws₁ (s₁ .args .i)
   cut-is = cut-same ws₁ (c .before .before .index .result) (c .index2 .result) _ _ (c .before .before .index .ensures) (c .index2 .ensures)
 
-  lent₁ : part.Lent (s₁ .args .first-repeat) (s₁ .args .base + cell-position cs₁ (s₁ .args .i)) (s₁ .args .depth) part₁ (length (now (s₁ .args .work))) (s₁ .args .stack) (length (now (s₁ .args .lines))) (s₁ .args .at)
-  lent₁ = rw cut-is (s₁ .pre .lent)
+  -- what is lent is enough wherever the part starts, as long as its end fits
+  lent₁ : (start : ℕ) → start + s₁ .pre .lent .len ≤ 4294967295
+      → part.Lent (s₁ .args .first-repeat) start (s₁ .args .depth) part₁ (length (now (s₁ .args .work))) (s₁ .args .stack) (length (now (s₁ .args .lines))) (s₁ .args .at)
+  lent₁ start fits =
+      let l = s₁ .pre .lent in
+      rw cut-is (record { types = l .types; len = l .len; parts = l .parts; ends = fits; work-fits = l .work-fits; lines-fit = l .lines-fit; shallow = l .shallow })
 
   lines-are : part.listed-part (s₁ .args .first-repeat) (s₁ .args .base + cell-position cs₁ (s₁ .args .i)) (s₁ .args .depth) part₁ ≡ cell-lines (s₁ .args .first-repeat) cs₁ ws₁ (s₁ .args .i) (s₁ .args .base) (s₁ .args .depth)
   lines-are =
@@ -46,7 +50,7 @@ module _ (c : tie.After-index2) where
       ∙ sym (lines-part (s₁ .args .first-repeat) cs₁ ws₁ (s₁ .args .i) (s₁ .args .base) (s₁ .args .depth) (s₁ .pre .is))
 
 list-part-requires : tie.Need-list-part-requires
-list-part-requires c κs = lent₁ (c .before .before .before .before)
+list-part-requires c κs = let x = c .before .before .before .before in lent₁ x _ (omega (arith, s₁ x .pre .lent .ends))
 
 returns : tie.Need-returns
 returns c =
