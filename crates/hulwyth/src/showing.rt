@@ -12,7 +12,6 @@ use crate::rooms;
 use crate::settings::Numbers;
 use crate::tables;
 use listing::Listed;
-use materialize::Materialized;
 use tree::CELL_WIDTH;
 use tree::LINE_WIDTH;
 use words::RECORD_WIDTH;
@@ -69,38 +68,8 @@ fn ordinary(records: &[u32], first_repeat: u32) -> usize {
     found
 }
 
-// Lists a tree without packed parts, and says how many of the ordinary records of its list are missing.
+// Lists a tree, and says how many of the ordinary records of its list are missing.
 fn show_list(
-    page: &mut [u8],
-    names: &[u8],
-    numbers: Numbers,
-    records: &[u32],
-    cells: &[u32],
-    work: &mut [u32],
-)
-    requires { ⌜ 32768 ≡ length (now names) ⌝ }
-{
-    let mut lines = rooms::records();
-    let answer = listing::list(
-        numbers.types,
-        numbers.first_repeat,
-        numbers.start,
-        cells,
-        work,
-        &mut lines,
-    );
-    match answer {
-        Listed::Lines(count) => {
-            let end = line_words(count, &lines);
-            tables::print_lines(page, names, &lines[..end]);
-            messages::print_missing(page, ordinary(records, numbers.first_repeat), count);
-        }
-        Listed::Refused(number, _) => messages::print_refused(page, number),
-    }
-}
-
-// Lists a tree: its packed records become trees first.
-fn show_tree_list(
     page: &mut [u8],
     names: &[u8],
     numbers: Numbers,
@@ -111,14 +80,23 @@ fn show_tree_list(
 )
     requires { ⌜ 32768 ≡ length (now names) ⌝ }
 {
-    let mut out = rooms::cells();
-    let answer = materialize::materialize(numbers.types, cells, words, work, &mut out);
+    let mut lines = rooms::records();
+    let answer = listing::list(
+        numbers.types,
+        numbers.first_repeat,
+        numbers.start,
+        cells,
+        words,
+        work,
+        &mut lines,
+    );
     match answer {
-        Materialized::Cells(count) => {
-            let end = cell_words(count, &out);
-            show_list(page, names, numbers, records, &out[..end], work);
+        Listed::Lines(count) => {
+            let end = line_words(count, &lines);
+            tables::print_lines(page, names, &lines[..end]);
+            messages::print_missing(page, ordinary(records, numbers.first_repeat), count);
         }
-        Materialized::Refused(number, _) => messages::print_refused(page, number),
+        Listed::Refused(number, _) => messages::print_refused(page, number),
     }
 }
 
@@ -198,7 +176,7 @@ fn show_tree(
     );
     show_cells(page, options, cells);
     show_words(page, options, words);
-    show_tree_list(page, names, numbers, records, cells, words, work);
+    show_list(page, names, numbers, records, cells, words, work);
 }
 
 // Shows the tree that is in the first cells and packed words, so many of each.
