@@ -8,13 +8,19 @@ use native.Mathlib.Nat.{add-zero}
 use native.Mathlib.Decide.{decLe, decLt, ℕ-discrete}
 use borrow.Author.Tests.{le-ltb, lt-ltb, le-leb, lt-leb, eq-eqb, ne-eqb}
 use lib.Dec.{ltb, leb, eqb}
-use lib.ListN.{length, getD, set, drop, length-drop, List·getD-eq-default}
+use lib.ListN.{length, getD, set, take, drop, length-drop, List·getD-eq-default}
 use lib.Seq.{getD-set-same, getD-set-other, getD-drop}
 use Rattle.tree.specs.Cells.{cell-width, cell-kind, cell-next}
 use Rattle.rules.specs.Cell.{Cell, cells-of}
 use Rattle.rules.specs.Lowest.{chain, chains, any-part}
 use Rattle.cells.specs.Steps.{cell-at, followed, Last}
 use Rattle.rules.proofs.Keeping.{chain-leads, chain-ends}
+
+-- words between two places are as many words from the first one on
+pub cut-same : (ws : List ℕ) (from count a n : ℕ) → from ≡ a → count ≡ n → take (from + count - from) (drop from ws) ≡ take n (drop a ws)
+cut-same ws from count a n from-is count-is =
+    let e : from + count - from ≡ n = omega arith in
+    rw (e, from-is)
 
 -- cell i of a word list
 pub cells-drop : (i : ℕ) (cs : List ℕ) → i * cell-width + cell-width ≤ length cs → drop i (cells-of cs) ≡ cell-at cs i ∷ drop (suc i) (cells-of cs)

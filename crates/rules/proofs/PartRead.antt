@@ -17,11 +17,12 @@ use Rattle.tree.specs.Trees.{Trees, nil, tree, _⊕_, nodes}
 use Rattle.tree.specs.Materialise.{within, beyond, unpack}
 use Rattle.tree.specs.Cells.{id-word}
 use Rattle.tree.proofs.PackLaws.{within-zero, beyond-zero}
+use Rattle.tree.proofs.PartReadBack.{within-beyond}
 use Rattle.tree.proofs.PartForms.{open-ends, past-enclosing, entry-fault, entries-fault}
 use Rattle.rules.specs.PartLowest.{Around, still, earliest, bound, ranges, is-accepted, part-kept}
 use Rattle.rules.proofs.Tests.{both}
 use Rattle.rules.proofs.Entries.{Fine, fine, no-fault}
-use Rattle.rules.proofs.PartTrees.{stops, open-ends-stops, Entries, within-beyond, entries-within, entries-unpack, spelled-⊕}
+use Rattle.rules.proofs.PartTrees.{stops, open-ends-stops, Entries, entries-within, entries-unpack, spelled-⊕}
 use Rattle.tree.specs.Well.{Plain, Parts, Short, spelled}
 
 -- T types, a part that starts at p with the length l and n words

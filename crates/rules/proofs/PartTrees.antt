@@ -1,5 +1,5 @@
 -- The records around a record, and the trees that a part's words are read as: their words, put together again. Assumes nothing.
-use mathlib.Core.Path.{_≡_, refl, ap}
+use mathlib.Core.Path.{_≡_, refl}
 use mathlib.Core.Bool.{Bool, true, false}
 use mathlib.Core.List.{List, [], _∷_, _++_, append-assoc}
 use mathlib.Core.Option.{none, some}
@@ -35,14 +35,6 @@ Entries nil = Unit {0}
 Entries (tree none s l kids rest) = ⊥
 Entries (tree (some i) s l kids rest) = Entries kids × Entries rest
 Entries (part s l ws rest) = ⊥
-
-pub within-beyond : (ts : Trees) (k : ℕ) → within ts k ⊕ beyond ts k ≡ ts
-unfolding within beyond _⊕_
-within-beyond nil k = refl
-within-beyond (tree t s l kids rest) zero = refl
-within-beyond (tree t s l kids rest) (suc k) = ap (tree t s l kids) (within-beyond rest (k - nodes kids))
-within-beyond (part s l ws rest) zero = refl
-within-beyond (part s l ws rest) (suc k) = ap (part s l ws) (within-beyond rest k)
 
 pub entries-within : (ts : Trees) (k : ℕ) → Entries ts → Entries (within ts k)
 unfolding within

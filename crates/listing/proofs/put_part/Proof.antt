@@ -10,15 +10,10 @@ use Rattle.tree.specs.Cells.{cell-position, part-at}
 use Rattle.part_lines.specs.Steps as part
 use Rattle.listing.specs.Steps.{cell-lines}
 use Rattle.listing.proofs.Lines.{lines-part}
+use Rattle.cells.proofs.Reading.{cut-same}
 use borrow.Author.Needs.{needs}
 use Rattle.listing.proofs.put_part.Statement.{statement}
 use Rattle.listing.proofs.put_part.Tie as tie
-
--- words between two places are as many words from the first one on
-cut-same : (ws : List ℕ) (from count a n : ℕ) → from ≡ a → count ≡ n → take (from + count - from) (drop from ws) ≡ take n (drop a ws)
-cut-same ws from count a n from-is count-is =
-    let e : from + count - from ≡ n = omega arith in
-    rw (e, from-is)
 
 -- the part's place among the words is read
 module _ (c : tie.After-index2) where

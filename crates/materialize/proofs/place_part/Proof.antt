@@ -7,16 +7,11 @@ use mathlib.Core.Path.{_≡_, ap}
 use denote.Ref.{now}
 use Rattle.materialize.specs.Steps.{Next-part, Packed}
 use Rattle.materialize.proofs.Placing.{part-ready, part-few, part-wrote}
+use Rattle.cells.proofs.Reading.{cut-same}
 use borrow.Author.Needs.{needs}
 use Rattle.tree.specs.Cells.{cell-position, cell-first, cell-count, part-at}
 use Rattle.materialize.proofs.place_part.Statement.{statement}
 use Rattle.materialize.proofs.place_part.Tie as tie
-
--- words between two places are as many words from the first one on
-cut-same : (ws : List ℕ) (from count a n : ℕ) → from ≡ a → count ≡ n → take (from + count - from) (drop from ws) ≡ take n (drop a ws)
-cut-same ws from count a n from-is count-is =
-    let e : from + count - from ≡ n = omega arith in
-    rw (e, from-is)
 
 -- the part's place among the words is read
 module _ (c : tie.After-index2) where
