@@ -47,9 +47,10 @@ module _ {T F S : ℕ} {cs ws : List ℕ} {work : ℕ} {out : List ℕ} (p : Pas
   pub whole-cells : length cs / cell-width * cell-width ≡ length cs
   whole-cells = omega (arith, begins .size)
 
-  module _ (own packed count : ℕ) (counts : own ≡ lines-from F cs 1 (length cs / cell-width - 1)) (records : packed ≡ listed-in F ws) (sum : count ≡ own + packed) where
+  -- the lines of the cells and those of the packed records are counted
+  module _ (count : ℕ) (counted : count ≡ lines-from F cs 1 (length cs / cell-width - 1) + listed-in F ws) where
     size-is : length (list-cells F S cs ws) ≡ count * 4
-    size-is = omega (arith, line-count T F S cs ws begins (length cs / cell-width) whole-cells, counts, records)
+    size-is = omega (arith, line-count T F S cs ws begins (length cs / cell-width) whole-cells, counted)
 
     refuses : lines-room (length (list-cells F S cs ws)) (length out) ≡ refused 14 0 → Refuses T F S cs ws work out 14 0
     unfolding list-call

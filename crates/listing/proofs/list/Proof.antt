@@ -2,7 +2,7 @@
 use borrow.Author.Needs.{needs}
 use borrow.Author.Tests.{ltb-true, ltb-false}
 use denote.Ref.{now}
-use mathlib.Core.Path.{refl, sym, ap, _∙_}
+use mathlib.Core.Path.{_≡_, sym, ap, _∙_}
 use mathlib.Core.List.{List}
 use Prim.Native.Nat.{ℕ, _+_, _-_, _*_, _/_, _≤_}
 use native.Mathlib.Omega.{arith}
@@ -11,7 +11,9 @@ use Rattle.words.specs.Answer.{place-found}
 use Rattle.tree.specs.Cells.{cell-width}
 use Rattle.rules.specs.Calls.{items}
 use Rattle.rules.proofs.PartRead.{short-of}
+use Rattle.part_lines.specs.Steps.{listed-in}
 use Rattle.part_lines.proofs.Counts.{listed-few}
+use Rattle.listing.specs.Steps.{lines-from}
 use Rattle.listing.proofs.Writes.{lines-few}
 use Rattle.listing.proofs.Cases.{many-types, little-work, bad-at, Passed, whole-cells, too-many, little-room, all-lent, all-written}
 use Rattle.listing.proofs.list.Statement.{statement}
@@ -93,22 +95,39 @@ add-count c =
     let z = given (c .before .before) in
     omega (arith, c .count-listed .ensures, c .before .count-lines .ensures, listed-few (F z) (ws z), lines-few (F z) (cs z) 1 (length (cs z) / cell-width - 1))
 
+-- the lines are counted
+module _ (l : tie.After-count-listed) where
+  abbrev before-counts : tie.After-enum-told
+  before-counts = l .before .before
+
+  abbrev count : ℕ
+  count = l .before .count-lines .result + l .count-listed .result
+
+  counted : let z = given before-counts in count ≡ lines-from (F z) (cs z) 1 (length (cs z) / cell-width - 1) + listed-in (F z) (ws z)
+  counted = omega (arith, l .before .count-lines .ensures, l .count-listed .ensures)
+
 returns-4 : tie.Need-returns-4
-returns-4 c = too-many (passed-at (c .before .before .before)) (c .before .before .count-lines .result) (c .before .count-listed .result) _ (c .before .before .count-lines .ensures) (c .before .count-listed .ensures) refl (c .if3 .taken)
+returns-4 c =
+    let l = c .before in
+    too-many (passed-at (before-counts l)) (count l) (counted l) (c .if3 .taken)
 
 returns-5 : tie.Need-returns-5
-returns-5 c = little-room (passed-at (c .before .before .before .before)) (c .before .before .before .count-lines .result) (c .before .before .count-listed .result) _ (c .before .before .before .count-lines .ensures) (c .before .before .count-listed .ensures) refl (c .if4 .taken)
+returns-5 c =
+    let l = c .before .before in
+    little-room (passed-at (before-counts l)) (count l) (counted l) (c .if4 .taken)
 
 write-lines-requires : tie.Need-write-lines-requires
 write-lines-requires c κs =
-    all-lent (passed-at (c .before .before .before .before .before .before)) (c .before .before .before .before .before .count-lines .result) (c .before .before .before .before .count-listed .result) _ (c .before .before .before .before .before .count-lines .ensures) (c .before .before .before .before .count-listed .ensures) refl (c .before .before .before .if3 .left) (c .before .before .if4 .left) _
-    (c .before .before .before .before .before .before .before .before .before .before .tree-check .kept .1 .1 .1 .1 .0)
+    let l = c .before .before .before .before in
+    let checked = c .before .before .before .before .before .before .before .before .before .before .tree-check in
+    all-lent (passed-at (before-counts l)) (count l) (counted l) (c .before .before .before .if3 .left) (c .before .before .if4 .left) _ (checked .kept .1 .1 .1 .1 .0)
 
 returns-6 : tie.Need-returns-6
 returns-6 c =
+    let fits = c .before .before .before .before .before .before .before in
+    let l = fits .before .before in
     let write = c .before .before .before .before .write-lines in
-    all-written (passed-at (c .before .before .before .before .before .before .before .before .before .before .before)) (c .before .before .before .before .before .before .before .before .before .before .count-lines .result) (c .before .before .before .before .before .before .before .before .before .count-listed .result) _ (c .before .before .before .before .before .before .before .before .before .before .count-lines .ensures) (c .before .before .before .before .before .before .before .before .before .count-listed .ensures) refl (c .before .before .before .before .before .before .before .before .if3 .left) (c .before .before .before .before .before .before .before .if4 .left)
-    (write .last .1 .1 .1 .1 .1 .1 .0) (write .ensures)
+    all-written (passed-at (before-counts l)) (count l) (counted l) (fits .before .if3 .left) (fits .if4 .left) (write .last .1 .1 .1 .1 .1 .1 .0) (write .ensures)
 
 pub list-spec : {M : Type 1} → statement M
 list-spec =

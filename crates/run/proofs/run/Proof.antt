@@ -38,54 +38,76 @@ module _ (b : tie.After-build) where
   fits-at : (n m : ℕ) → b .build .result ≡ Built.Cells n m → (cell-width * n ≤ length cells₁) × (m ≤ length words₁)
   fits-at n m e =
       let a = z₁ .args in
-      let f = build-fits (a .types) (a .first-repeat) (a .bound) (a .start) (a .top) (given-length (a .given)) (length (now (a .work))) (now (a .records)) (now (a .cells)) (now (a .words)) (result (built-outcome (b .build .result)) (cells₁ ∷ words₁ ∷ [])) n m (b .build .ensures) (ap built-outcome e) in
+      let f =
+      build-fits (a .types) (a .first-repeat) (a .bound) (a .start) (a .top) (given-length (a .given)) (length (now (a .work))) (now (a .records)) (now (a .cells)) (now (a .words))
+      (result (built-outcome (b .build .result)) (cells₁ ∷ words₁ ∷ [])) n m (b .build .ensures) (ap built-outcome e) in
       (omega (arith, f .0, b .build .kept .1 .1 .1 .1 .1 .1 .1 .1 .0), omega (arith, f .1, b .build .kept .1 .1 .1 .1 .1 .1 .1 .1 .1 .0))
 
   same-work : work₁ ≡ length (now (z₁ .args .work))
   same-work = omega (arith, b .build .kept .1 .1 .1 .1 .1 .1 .1 .0)
 
+-- the build is accepted, with its counts
+module _ (k : tie.After-count) where
+  abbrev b₁ : tie.After-build
+  b₁ = k .before .before .before .before .before .before .before .before
+
+  abbrev n₁ : ℕ
+  n₁ = k .count .given .0 .0
+
+  abbrev m₁ : ℕ
+  m₁ = k .count .given .0 .1 .0
+
+  fits-here : (cell-width * n₁ ≤ length (cells₁ b₁)) × (m₁ ≤ length (words₁ b₁))
+  fits-here = fits-at b₁ n₁ m₁ (k .count .given .1)
+
 mul-end : tie.Need-mul-end
-mul-end c = omega (arith, (fits-at (c .before .before .before .before .before .before .before .before .before) (c .before .count .given .0 .0) (c .before .count .given .0 .1 .0) (c .before .count .given .1)) .0, z₁ (c .before .before .before .before .before .before .before .before .before) .good .1 .1 .1 .1 .1 .1 .1 .1 .0 .0, c .before .before .before .before .before .before .before .before .before .build .kept .1 .1 .1 .1 .1 .1 .1 .1 .0)
+mul-end c =
+    let b = b₁ (c .before) in
+    omega (arith, fits-here (c .before) .0, z₁ b .good .1 .1 .1 .1 .1 .1 .1 .1 .0 .0, b .build .kept .1 .1 .1 .1 .1 .1 .1 .1 .0)
 
 slice-reshare-prefix-built : tie.Need-slice-reshare-prefix-built
-slice-reshare-prefix-built c = (fits-at (c .before .before .before .before .before .before .before .before .before) (c .before .count .given .0 .0) (c .before .count .given .0 .1 .0) (c .before .count .given .1)) .0
+slice-reshare-prefix-built c = fits-here (c .before) .0
 
 slice-aggregate-built : tie.Need-slice-aggregate-built
-slice-aggregate-built c = sym (length-take-le (cell-width * c .before .before .count .given .0 .0) (cells₁ (c .before .before .before .before .before .before .before .before .before .before)) ((fits-at (c .before .before .before .before .before .before .before .before .before .before) (c .before .before .count .given .0 .0) (c .before .before .count .given .0 .1 .0) (c .before .before .count .given .1)) .0))
+slice-aggregate-built c =
+    let k = c .before .before in
+    sym (length-take-le (cell-width * n₁ k) (cells₁ (b₁ k)) (fits-here k .0))
 
 slice-reshare-prefix-parts : tie.Need-slice-reshare-prefix-parts
-slice-reshare-prefix-parts c = (fits-at (c .before .before .before .before .before .before .before .before .before .before) (c .before .before .count .given .0 .0) (c .before .before .count .given .0 .1 .0) (c .before .before .count .given .1)) .1
+slice-reshare-prefix-parts c = fits-here (c .before .before) .1
 
 slice-aggregate-parts : tie.Need-slice-aggregate-parts
-slice-aggregate-parts c = sym (length-take-le (c .before .before .before .count .given .0 .1 .0) (words₁ (c .before .before .before .before .before .before .before .before .before .before .before)) ((fits-at (c .before .before .before .before .before .before .before .before .before .before .before) (c .before .before .before .count .given .0 .0) (c .before .before .before .count .given .0 .1 .0) (c .before .before .before .count .given .1)) .1))
+slice-aggregate-parts c =
+    let k = c .before .before .before in
+    sym (length-take-le (m₁ k) (words₁ (b₁ k)) (fits-here k .1))
 
 -- the answer of listing
 module _ (l : tie.After-list) where
-  abbrev b₁ : tie.After-build
-  b₁ = l .before .before .before .before .before .before .before .before .before .before .before .before .before .before
+  abbrev k₂ : tie.After-count
+  k₂ = l .before .before .before .before .before .before
 
-  abbrev n₁ : ℕ
-  n₁ = l .before .before .before .before .before .before .count .given .0 .0
+  abbrev b₂ : tie.After-build
+  b₂ = b₁ k₂
 
-  abbrev m₁ : ℕ
-  m₁ = l .before .before .before .before .before .before .count .given .0 .1 .0
-
-  abbrev lines₁ : List ℕ
-  lines₁ = l .list .last .1 .1 .1 .1 .1 .1 .0
+  abbrev lines₂ : List ℕ
+  lines₂ = l .list .last .1 .1 .1 .1 .1 .1 .0
 
   -- the counts of the build, then what listing gives
   listed-at : (v : Listed) → l .list .result ≡ v
-      → followed (accepted (n₁ ∷ m₁ ∷ [])) (cells₁ b₁ ∷ words₁ b₁ ∷ []) (followed (listed-outcome v) (lines₁ ∷ []) none-left []) (now (z₁ b₁ .args .lines) ∷ [])
-      ≡ run-call (z₁ b₁ .args .types) (z₁ b₁ .args .first-repeat) (z₁ b₁ .args .bound) (z₁ b₁ .args .start) (z₁ b₁ .args .top) (given-length (z₁ b₁ .args .given)) (one-work (length (now (z₁ b₁ .args .work)))) (now (z₁ b₁ .args .records)) (now (z₁ b₁ .args .cells)) (now (z₁ b₁ .args .words)) (now (z₁ b₁ .args .lines))
+      → let a = z₁ b₂ .args in
+      followed (accepted (n₁ k₂ ∷ m₁ k₂ ∷ [])) (cells₁ b₂ ∷ words₁ b₂ ∷ []) (followed (listed-outcome v) (lines₂ ∷ []) none-left []) (now (a .lines) ∷ [])
+      ≡ run-call (a .types) (a .first-repeat) (a .bound) (a .start) (a .top) (given-length (a .given)) (one-work (length (now (a .work)))) (now (a .records)) (now (a .cells)) (now (a .words)) (now (a .lines))
   listed-at =
-      let a = z₁ b₁ .args in
-      run-listed (a .types) (a .first-repeat) (a .bound) (a .start) (a .top) (given-length (a .given)) (length (now (a .work))) (now (a .records)) (now (a .cells)) (now (a .words)) (now (a .lines)) (b₁ .build .result) (cells₁ b₁) (words₁ b₁) (b₁ .build .ensures) n₁ m₁ (l .before .before .before .before .before .before .count .given .1) (work₁ b₁) (same-work b₁) (l .list .result) lines₁ (l .list .ensures)
+      let a = z₁ b₂ .args in
+      run-listed (a .types) (a .first-repeat) (a .bound) (a .start) (a .top) (given-length (a .given)) (length (now (a .work))) (now (a .records)) (now (a .cells)) (now (a .words)) (now (a .lines))
+      (b₂ .build .result) (cells₁ b₂) (words₁ b₂) (b₂ .build .ensures) (n₁ k₂) (m₁ k₂) (k₂ .count .given .1) (work₁ b₂) (same-work b₂) (l .list .result) lines₂ (l .list .ensures)
 
 returns : tie.Need-returns
 returns c =
     let b = c .before .before .before .before .before .before .before .before .before in
     let a = z₁ b .args in
-    run-refused (a .types) (a .first-repeat) (a .bound) (a .start) (a .top) (given-length (a .given)) (length (now (a .work))) (now (a .records)) (now (a .cells)) (now (a .words)) (now (a .lines)) (b .build .result) (cells₁ b) (words₁ b) (b .build .ensures) (c .before .number .given .0 .0) (c .before .number .given .0 .1 .0) (c .before .number .given .1)
+    run-refused (a .types) (a .first-repeat) (a .bound) (a .start) (a .top) (given-length (a .given)) (length (now (a .work))) (now (a .records)) (now (a .cells)) (now (a .words)) (now (a .lines))
+    (b .build .result) (cells₁ b) (words₁ b) (b .build .ensures) (c .before .number .given .0 .0) (c .before .number .given .0 .1 .0) (c .before .number .given .1)
 
 returns-2 : tie.Need-returns-2
 returns-2 c = listed-at (c .before .before .before .before .before .before .before) (Listed.Refused (c .before .number2 .given .0 .0) (c .before .number2 .given .0 .1 .0)) (c .before .number2 .given .1)
