@@ -47,12 +47,15 @@ module _ (c : tie.After-index2) where
 list-part-requires : tie.Need-list-part-requires
 list-part-requires c κs = let x = c .before .before .before .before in lent₁ x _ (omega (arith, s₁ x .pre .lent .ends))
 
+-- `next` has a type of its own: a part that starts elsewhere than at base and position is refused there, in these words
 returns : tie.Need-returns
 returns c =
     let x = c .before .before .before .before .before .before .before .before .before in
     let l = c .before .before .before .before .list-part in
     let a = s₁ x .args in
-    (l .ensures .0 ∙ ap (λ (v : List ℕ). a .at + length v) (lines-are x), (l .ensures .1 .0 ∙ ap (put (now (a .lines)) (a .at)) (lines-are x), l .ensures .1 .1))
+    let lines = part.listed-part (a .first-repeat) (a .base + cell-position (cs₁ x) (a .i)) (a .depth) (part₁ x) in
+    let next : l .result ≡ a .at + length lines = l .ensures .0 in
+    (next ∙ ap (λ (v : List ℕ). a .at + length v) (lines-are x), (l .ensures .1 .0 ∙ ap (put (now (a .lines)) (a .at)) (lines-are x), l .ensures .1 .1))
 
 pub put-part-spec : {M : Type 1} → statement M
 put-part-spec =
