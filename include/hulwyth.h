@@ -19,9 +19,9 @@
  * Return: 0 where the call is accepted, else the number of the refusal. Where several apply it is the first, in the order in which
  * the tables below have them; of several records or cells at fault the lowest is named.
  *
- * info takes, as many as it holds: the place, the first count, the second count. Accepted: the place is 0, and so is a count that
- * the call does not name. Refused: the place is the offender, or 0 where none is named, and both counts are 0. A place or count
- * above 4,294,967,295 is told as 4,294,967,295.
+ * info takes, as many as it holds: the place, the first count, the second count, and of hulwyth_part_check alone a third count; no
+ * other call writes to its fourth word. Accepted: the place is 0, and so is a count that the call does not name. Refused: the place
+ * is the offender, or 0 where none is named, and all counts are 0. A place or count above 4,294,967,295 is told as 4,294,967,295.
  *
  * Outputs: a refused call leaves them as they were; an accepted one writes only the counted front.
  *
@@ -278,19 +278,23 @@ uint32_t hulwyth_list(uint32_t types, uint32_t first_repeat, uint32_t start, con
  * 17 to 20 are tested together, record by record. The place of 17 to 20, 23 and 25 is the word offset of the record in words.
  */
 
-/* Checks a packed part. First count: the records. Refusals 1, 16 to 20.
+/* Checks a packed part. First count: the records; second count: the greatest end of any record; third count: the deepest nesting,
+ * which is 1 for records held by no other. All are 0 where there is no record. Refusals 1, 16 to 20.
+ *
+ * A record is held by each earlier one whose end index is above its word offset, whatever their ranges. So the greatest end need
+ * not be that of a record held by no other: 1,0,2,8, 1,0,9,8 has 2 records, the greatest end 9 and the nesting 2.
  *
  * types      T
  * words      the part
  * words_len  its words
  * info       place and counts
- * info_len   its words
+ * info_len   its words: 4 for all of them
  */
 uint32_t hulwyth_part_check(uint32_t types, const uint16_t *words, size_t words_len, uint32_t *info, size_t info_len);
 
 /* Writes the records of a packed part from the word from up to the word to, as a part: starts and ends are counted from base, end
- * indices from from. First count: the words written; second count: the slice's length, which is the largest end left, or 0 where it
- * has no record. Refusals 1, 16 to 22, 23, 19, 13.
+ * indices from from. First count: the words written; second count: the slice's length, which is the greatest end of the part
+ * written, as hulwyth_part_check tells it. Refusals 1, 16 to 22, 23, 19, 13.
  *
  * types      T
  * from       the word offset of the first record

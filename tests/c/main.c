@@ -1,8 +1,8 @@
-/* The gateway's shape: makes each of the eight calls on document 01's examples, and balances and lists one more tree on a node set
- * without none in place 0 and on one with it. What was built is listed as it is, and once more when it is materialised. The slices
- * are its own. It prints what each call gives: a line with the number, the place and the counts, and under it what the call wrote.
- * With the argument `short` the work slice of a call is one word short of what it asks for; the program then stops after the first
- * call, with status 1. */
+/* The gateway's shape: makes each of the eight calls on document 01's examples, balances and lists one more tree on a node set
+ * without none in place 0 and on one with it, and checks three more parts. What was built is listed as it is, and once more when it
+ * is materialised. The slices are its own. It prints what each call gives: a line with the number, the place and the counts, and
+ * under it what the call wrote. With the argument `short` the work slice of a call is one word short of what it asks for; the
+ * program then stops after the first call, with status 1. */
 #include <inttypes.h>
 #include <stdio.h>
 #include <string.h>
@@ -36,11 +36,20 @@ struct tree {
     size_t cell_count, word_count;
 };
 
-/* Prints what a call answered; whether it was accepted. */
+/* Prints what a call answered that tells so many counts; whether it was accepted. */
+static int accepted_with(const char *call, uint32_t number, const uint32_t *info, size_t counts)
+{
+    printf("%s: %" PRIu32 ", place %" PRIu32 ", counts", call, number, info[0]);
+    for (size_t i = 1; i <= counts; i++)
+        printf(" %" PRIu32, info[i]);
+    printf("\n");
+    return number == 0;
+}
+
+/* The same of a call that tells two, as all but the part check do. */
 static int accepted(const char *call, uint32_t number, const uint32_t info[3])
 {
-    printf("%s: %" PRIu32 ", place %" PRIu32 ", counts %" PRIu32 " %" PRIu32 "\n", call, number, info[0], info[1], info[2]);
-    return number == 0;
+    return accepted_with(call, number, info, 2);
 }
 
 /* Prints so many rows of words. */
@@ -177,11 +186,20 @@ static int balance_leaves(uint32_t count, size_t held_back)
     return balance(&tree, 0, &made, held_back);
 }
 
-static int part_check(const struct tree *tree)
+/* Its counts are the records, the greatest end and the deepest nesting. */
+static int part_check(uint32_t types, const uint16_t *words, size_t count)
 {
-    uint32_t info[3];
-    uint32_t number = hulwyth_part_check(TYPES, tree->words, tree->word_count, info, 3);
-    return accepted("part check", number, info);
+    uint32_t info[4];
+    uint32_t number = hulwyth_part_check(types, words, count, info, 4);
+    return accepted_with("part check", number, info, 3);
+}
+
+/* The built part, one whose greatest end is that of a record inside another, the same where its ids are too high, and no words. */
+static int part_checks(const struct tree *tree)
+{
+    static const uint16_t inside[2 * HULWYTH_RECORD_WIDTH] = {1, 0, 2, 8, 1, 0, 9, 8};
+    return part_check(TYPES, tree->words, tree->word_count) && part_check(2, inside, 2 * HULWYTH_RECORD_WIDTH)
+           && !part_check(1, inside, 2 * HULWYTH_RECORD_WIDTH) && part_check(TYPES, NULL, 0);
 }
 
 /* A refused slice does not stop the program: two of document 01's examples are refused. */
@@ -217,7 +235,7 @@ int main(int argc, char **argv)
         return 1;
     if (!balance_leaves(LEAVES - 1, held_back) || !balance_leaves(LEAVES, held_back))
         return 1;
-    if (!balance_nine(0, held_back) || !balance_nine(1, held_back) || !part_check(&tree))
+    if (!balance_nine(0, held_back) || !balance_nine(1, held_back) || !part_checks(&tree))
         return 1;
     part_slice(&tree, 4, 12, 0);
     part_slice(&tree, 0, 8, 0);

@@ -81,11 +81,11 @@ pub fn untouched(guard: &[u32]) -> bool {
     guard.iter().all(|&word| word == UNTOUCHED)
 }
 
-/// What four words hold after a call that was lent so many of them to answer in: the place and two counts.
-pub fn answered(told: [u32; 3], held: usize) -> [u32; 4] {
-    let [place, first, second] = told;
-    let mut words = [place, first, second, UNTOUCHED];
-    words[held..].fill(UNTOUCHED);
+/// What words hold after a call that was lent so many of them to answer in, and told these: place and counts.
+pub fn answered<const WORDS: usize>(told: &[u32], held: usize) -> [u32; WORDS] {
+    let mut words = [UNTOUCHED; WORDS];
+    let taken = told.len().min(held);
+    words[..taken].copy_from_slice(&told[..taken]);
     words
 }
 

@@ -11,6 +11,7 @@ use crate::parts::model::Search;
 pub use crate::rezel::tree::TreeBuffer;
 use crate::rezel::tree::{self, NodeSet, Tree, TreeBuild};
 use crate::rezel::{self, Panicked, guarded};
+use crate::widths::RECORD_WIDTH;
 
 /// One more type than a set may have: every larger number of types fails by the same assertion.
 const TOO_MANY_TYPES: u32 = 65_537;
@@ -92,6 +93,29 @@ pub fn slice(
         let cut = buffer.slice(from, to, TextSize::new(base));
         (cut.data().to_vec(), u32::from(cut.len()))
     })
+}
+
+/// The part check's counts: the records; the length of a slice of all of them; how deep the text of the buffer nests.
+pub fn counts(buffer: &TreeBuffer) -> Result<[u64; 3], Panicked> {
+    let (words, length) = slice(buffer, 0, buffer.data().len(), 0)?;
+    let text = guarded(|| tree::buffer_text(buffer))?;
+    let records = words.len() / RECORD_WIDTH;
+    Ok([records as u64, length.into(), nesting(&text)])
+}
+
+/// How deep a text nests in which every record is a name, with its children in brackets behind it; 0 if it has no name.
+fn nesting(text: &str) -> u64 {
+    let mut open = u64::from(!text.is_empty());
+    let mut deepest = open;
+    for byte in text.bytes() {
+        match byte {
+            b'(' => open += 1,
+            b')' => open -= 1,
+            _ => {}
+        }
+        deepest = deepest.max(open);
+    }
+    deepest
 }
 
 /// The search: the offset of the match, or none. Some bounds make it run for ever: see `parts/compare.rs`.

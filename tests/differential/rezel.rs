@@ -45,6 +45,11 @@ pub mod tree {
         find_buffer_child(buffer, from, to, direction, position, base, side)
     }
 
+    /// The private text of a buffer: the name of each record, and behind it its children in brackets.
+    pub fn buffer_text(buffer: &TreeBuffer) -> String {
+        buffer.render()
+    }
+
     /// Where a tree stands in memory: no two trees that are held at one time stand in one place.
     pub fn address(tree: &Tree) -> usize {
         Arc::as_ptr(&tree.0) as usize

@@ -1,24 +1,25 @@
--- Records around, held in the work slice. Assumes nothing.
+-- The records around the present one of a part: their end indices in the array of open ends, their ends in the work slice.
+-- Assumes nothing.
 use mathlib.Core.Path.{_≡_, refl, sym, ap, _∙_}
 use mathlib.Core.Bool.{Bool, true, false, not, cond}
-use mathlib.Core.List.{List, _∷_}
-use Prim.Native.Nat.{ℕ, zero, suc, _+_, _-_, _*_, _%_, _≤_, _<_}
+use mathlib.Core.List.{List, [], _∷_}
+use Prim.Native.Nat.{ℕ, zero, suc, _+_, _-_, _≤_, _<_}
 use native.Mathlib.Omega.{arith}
-use native.Mathlib.Nat.{le-refl}
+use native.Mathlib.Numerals.{add-one}
+use native.Mathlib.Decide.{decLe, ℕ-discrete}
 use borrow.Author.Tests.{le-ltb, lt-ltb, le-leb, lt-leb, eq-eqb, ne-eqb}
-use lib.Dec.{ltb, eqb}
-use lib.ListN.{length, getD}
-use Rattle.part.specs.Part.{own-fault}
-use Rattle.rules.specs.PartLowest.{Around, still, earliest}
-use Rattle.cells.specs.Around.{rings, Staying, around-broken}
+use lib.Dec.{ltb, leb, eqb}
+use lib.ListN.{length, getD, set}
+use lib.Seq.{getD-set-same, getD-set-other}
+use Rattle.part.specs.Open.{Innermost}
+use Rattle.rules.specs.PartLowest.{Around, still, earliest, ends-inside}
+use Rattle.cells.specs.Steps.{Front}
+use Rattle.cells.specs.Parts.{past-parent}
 
-pub ring-top : (held : List ℕ) (at t : ℕ) → 0 < t
-    → rings held at t ≡ record { stop = getD held (at + (t - 1) * 2) 0; end = getD held (at + (t - 1) * 2 + 1) 0 } ∷ rings held at (t - 1)
-unfolding rings
-ring-top held at zero h = absurd (omega arith)
-ring-top held at (suc t) h =
-    let e : suc t - 1 ≡ t = omega arith in
-    rw e
+-- the first t records around, innermost first: end indices in `ends`, ends in `held` from word `at` on
+unfoldable pub rings : (ends held : List ℕ) (at t : ℕ) → List Around
+rings ends held at zero = []
+rings ends held at (suc t) = record { stop = getD ends t 0; end = getD held (at + t) 0 } ∷ rings ends held at t
 
 still-on : (off : ℕ) (a : Around) (outer : List Around) → off < a .stop → still off (a ∷ outer) ≡ a ∷ outer
 unfolding still
@@ -36,81 +37,64 @@ earliest-off : (off lo : ℕ) (a : Around) (outer : List Around) → a .stop ≤
 unfolding earliest
 earliest-off off lo a outer h = rw (le-leb (a .stop) off h, earliest)
 
--- those above t have ended
-pub record Popping (held : List ℕ) (at top off t : ℕ) : Type 0 where
-  pub few : t ≤ top
-  pub are : still off (rings held at top) ≡ still off (rings held at t)
-  pub from : (lo : ℕ) → earliest off lo (rings held at top) ≡ earliest off (cond (ltb t top) (getD held (at + t * 2 + 1) 0) lo) (rings held at t)
+module _ (ends held : List ℕ) (at off : ℕ) where
+  -- those that stay open are the records around that go on past the offset
+  pub staying : (top r : ℕ) → Innermost ends top off r → still off (rings ends held at top) ≡ rings ends held at r
+  unfolding rings still
+  staying zero r m = let e : r ≡ 0 = omega (arith, m .below) in rw e
+  staying (suc t) r m = go (decLe r t) (λ l. staying t r (record { below = l; closed = λ k a b. m .closed k a (omega arith); innermost = m .innermost }))
+    where
+      go : Dec (r ≤ t) → (r ≤ t → still off (rings ends held at t) ≡ rings ends held at r) → still off (rings ends held at (suc t)) ≡ rings ends held at r
+      go (yes l) rest = still-off off _ (rings ends held at t) (m .closed t l (omega arith)) ∙ rest l
+      go (no l) rest =
+          let e : r ≡ suc t = omega (arith, m .below) in
+          let q : r - 1 ≡ t = omega arith in
+          rw e (still-on off _ (rings ends held at t) (rw q at (m .innermost (omega arith))))
 
-module _ (held : List ℕ) (at top off : ℕ) where
-  pub popping-start : Popping held at top off top
-  popping-start = record { few = le-refl top; are = refl; from = λ lo. rw (le-ltb top top (le-refl top)) }
+  -- the earliest start is the end of the outermost one that ended
+  pub starting : (top r lo : ℕ) → Innermost ends top off r → earliest off lo (rings ends held at top) ≡ cond (ltb r top) (getD held (at + r) 0) lo
+  unfolding rings earliest
+  starting zero r lo m = rw (le-ltb r 0 (omega arith))
+  starting (suc t) r lo m =
+      go (decLe r t) (ℕ-discrete r t) (λ l. starting t r (getD held (at + t) 0) (record { below = l; closed = λ k a b. m .closed k a (omega arith); innermost = m .innermost }))
+    where
+      go : Dec (r ≤ t) → Dec (r ≡ t) → (r ≤ t → earliest off (getD held (at + t) 0) (rings ends held at t) ≡ cond (ltb r t) (getD held (at + r) 0) (getD held (at + t) 0))
+          → earliest off lo (rings ends held at (suc t)) ≡ cond (ltb r (suc t)) (getD held (at + r) 0) lo
+      go (yes l) (yes e) rest =
+          earliest-off off lo _ (rings ends held at t) (m .closed t l (omega arith)) ∙ (rest l ∙ rw (lt-ltb r (suc t) (omega arith), le-ltb r t (omega arith), e))
+      go (yes l) (no e) rest =
+          earliest-off off lo _ (rings ends held at t) (m .closed t l (omega arith)) ∙ (rest l ∙ rw (lt-ltb r (suc t) (omega arith), lt-ltb r t (omega arith)))
+      go (no l) e rest =
+          let q : r - 1 ≡ t = omega (arith, m .below) in
+          rw (le-ltb r (suc t) (omega arith)) (earliest-on off lo _ (rings ends held at t) (rw q at (m .innermost (omega arith))))
 
-  pub popping-pop : (t : ℕ) → 0 < t → getD held (at + (t - 1) * 2) 0 ≤ off → Popping held at top off t → Popping held at top off (t - 1)
-  popping-pop t pos h p =
-      let a : Around = record { stop = getD held (at + (t - 1) * 2) 0; end = getD held (at + (t - 1) * 2 + 1) 0 } in
-      record {
-        few = omega (arith, p .few);
-        are = p .are ∙ (ap (still off) (ring-top held at t pos) ∙ still-off off a (rings held at (t - 1)) h);
-        from = λ lo.
-            p .from lo
-            ∙ (ap (earliest off (cond (ltb t top) (getD held (at + t * 2 + 1) 0) lo)) (ring-top held at t pos)
-            ∙ (earliest-off off (cond (ltb t top) (getD held (at + t * 2 + 1) 0) lo) a (rings held at (t - 1)) h ∙ rw (lt-ltb (t - 1) top (omega (arith, p .few)))));
-      }
+-- a record that ends past its parent
+pub parent-past : (ends held : List ℕ) (at t e : ℕ) → not (ends-inside e (rings ends held at t)) ≡ past-parent held at t e
+unfolding rings ends-inside past-parent
+parent-past ends held at zero e = refl
+parent-past ends held at (suc t) e =
+    let q : suc t - 1 ≡ t = omega arith in
+    rw (ne-eqb (suc t) 0 (λ z. omega arith), q) (flip (decLe e (getD held (at + t) 0)))
+  where
+    flip : Dec (e ≤ getD held (at + t) 0) → not (leb e (getD held (at + t) 0)) ≡ ltb (getD held (at + t) 0) e
+    flip (yes l) = rw (le-leb e (getD held (at + t) 0) l, le-ltb (getD held (at + t) 0) e l)
+    flip (no l) = rw (lt-leb e (getD held (at + t) 0) (omega arith), lt-ltb (getD held (at + t) 0) e (omega arith))
 
-  pub popping-stop : (t : ℕ) → 0 < t → off < getD held (at + (t - 1) * 2) 0 → Popping held at top off t → Staying held at top off t
-  popping-stop t pos h p =
-      let a : Around = record { stop = getD held (at + (t - 1) * 2) 0; end = getD held (at + (t - 1) * 2 + 1) 0 } in
-      record {
-        few = p .few;
-        are = p .are ∙ (ap (still off) (ring-top held at t pos) ∙ (still-on off a (rings held at (t - 1)) h ∙ sym (ring-top held at t pos)));
-        from = λ lo.
-            p .from lo
-            ∙ (ap (earliest off (cond (ltb t top) (getD held (at + t * 2 + 1) 0) lo)) (ring-top held at t pos)
-            ∙ earliest-on off (cond (ltb t top) (getD held (at + t * 2 + 1) 0) lo) a (rings held at (t - 1)) h);
-      }
+-- one record around more
+rings-set : (ends held : List ℕ) (at t j k x e : ℕ) → t ≤ j → at + t ≤ k → rings (set ends j x) (set held k e) at t ≡ rings ends held at t
+unfolding rings
+rings-set ends held at zero j k x e a b = refl
+rings-set ends held at (suc t) j k x e a b =
+    rw (getD-set-other ends j t x 0 (λ q. omega arith), getD-set-other held k (at + t) e 0 (λ q. omega arith), rings-set ends held at t j k x e (omega arith) (omega arith))
 
-  pub popping-none : (t : ℕ) → t ≡ 0 → Popping held at top off t → Staying held at top off t
-  unfolding rings still earliest
-  popping-none zero e p = record { few = p .few; are = p .are; from = λ lo. p .from lo }
-  popping-none (suc t) e p = absurd (omega arith)
+pub rings-push : (ends held : List ℕ) (at t x e : ℕ) → t < length ends → at + t < length held
+    → rings (set ends t x) (set held (at + t) e) at (t + 1) ≡ record { stop = x; end = e } ∷ rings ends held at t
+unfolding rings
+rings-push ends held at t x e a b =
+    rw (add-one t, getD-set-same ends t x 0 a, getD-set-same held (at + t) e 0 b, rings-set ends held at t t (at + t) x e (omega arith) (omega arith))
 
--- the answers of the tests
-module _ (held : List ℕ) (at t l x e : ℕ) where
-  pub around-none : t ≡ 0 → ltb l e ≡ around-broken held at t l x e
-  unfolding around-broken
-  around-none h = rw (eq-eqb t 0 h)
+pub front-same : (m : ℕ) (held : List ℕ) → Front m held held
+front-same m held = record { at = λ j h. refl }
 
-  pub around-past : (t ≡ 0 → ⊥) → getD held (at + (t - 1) * 2) 0 < x → true ≡ around-broken held at t l x e
-  unfolding around-broken
-  around-past h a = rw (ne-eqb t 0 h, lt-ltb (getD held (at + (t - 1) * 2) 0) x a)
-
-  pub around-end : (t ≡ 0 → ⊥) → x ≤ getD held (at + (t - 1) * 2) 0 → ltb (getD held (at + (t - 1) * 2 + 1) 0) e ≡ around-broken held at t l x e
-  unfolding around-broken
-  around-end h a = rw (ne-eqb t 0 h, le-ltb (getD held (at + (t - 1) * 2) 0) x a)
-
-module _ (ws : List ℕ) (T i : ℕ) where
-  pub entry-17 : T ≤ getD ws (i * 4) 0 → true ≡ not (eqb (own-fault ws T i) 0)
-  unfolding own-fault
-  entry-17 a = rw (le-leb T (getD ws (i * 4) 0) a)
-
-  pub entry-18 : getD ws (i * 4) 0 < T → getD ws (i * 4 + 2) 0 < getD ws (i * 4 + 1) 0 → true ≡ not (eqb (own-fault ws T i) 0)
-  unfolding own-fault
-  entry-18 a b = rw (lt-leb T (getD ws (i * 4) 0) a, lt-ltb (getD ws (i * 4 + 2) 0) (getD ws (i * 4 + 1) 0) b)
-
-  module _ (a : getD ws (i * 4) 0 < T) (b : getD ws (i * 4 + 1) 0 ≤ getD ws (i * 4 + 2) 0) where
-    pub entry-19 : getD ws (i * 4 + 3) 0 < i * 4 + 4 → true ≡ not (eqb (own-fault ws T i) 0)
-    unfolding own-fault
-    entry-19 c = rw (lt-leb T (getD ws (i * 4) 0) a, le-ltb (getD ws (i * 4 + 2) 0) (getD ws (i * 4 + 1) 0) b, lt-ltb (getD ws (i * 4 + 3) 0) (i * 4 + 4) c)
-
-    pub entry-long : i * 4 + 4 ≤ getD ws (i * 4 + 3) 0 → length ws < getD ws (i * 4 + 3) 0 → true ≡ not (eqb (own-fault ws T i) 0)
-    unfolding own-fault
-    entry-long c d = rw (lt-leb T (getD ws (i * 4) 0) a, le-ltb (getD ws (i * 4 + 2) 0) (getD ws (i * 4 + 1) 0) b, le-ltb (getD ws (i * 4 + 3) 0) (i * 4 + 4) c, lt-ltb (length ws) (getD ws (i * 4 + 3) 0) d)
-
-    pub entry-four : i * 4 + 4 ≤ getD ws (i * 4 + 3) 0 → getD ws (i * 4 + 3) 0 ≤ length ws → not (eqb (getD ws (i * 4 + 3) 0 % 4) 0) ≡ not (eqb (own-fault ws T i) 0)
-    unfolding own-fault
-    entry-four c d = rw (lt-leb T (getD ws (i * 4) 0) a, le-ltb (getD ws (i * 4 + 2) 0) (getD ws (i * 4 + 1) 0) b, le-ltb (getD ws (i * 4 + 3) 0) (i * 4 + 4) c, le-ltb (length ws) (getD ws (i * 4 + 3) 0) d) (tail (eqb (getD ws (i * 4 + 3) 0 % 4) 0))
-      where
-        tail : (x : Bool) → not x ≡ not (eqb (cond (not x) 19 0) 0)
-        tail true = refl
-        tail false = refl
+pub front-set : (m : ℕ) (before held : List ℕ) (j v : ℕ) → m ≤ j → Front m before held → Front m before (set held j v)
+front-set m before held j v h f = record { at = λ i l. getD-set-other held j i v 0 (λ e. omega arith) ∙ f .at i l }

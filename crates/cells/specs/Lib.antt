@@ -2,4 +2,4 @@
 pub mod Read
 pub mod Steps
 pub mod Open
-pub mod Around
+pub mod Parts

@@ -2,14 +2,13 @@
 // The tree check: the cell rules of document 01 (refusal 15) and the lowest cell that breaks one. Two passes over the cells and no
 // recursion: chain lengths from the last cell back, then the rules from cell 1 on, with the open links in the work slice.
 ghost use mathlib.Core.Path.{_≡_};
-ghost use mathlib.Core.Bool.{cond, not};
+ghost use mathlib.Core.Bool.{cond};
 ghost use mathlib.Core.List.{[], _∷_};
-ghost use Prim.Native.Nat.{_+_, _-_, _*_, _<_, _≤_};
+ghost use Prim.Native.Nat.{_+_, _-_, _*_, _/_, _<_, _≤_, min};
 ghost use lib.ListN.{length, getD};
 ghost use lib.Dec.{ltb, eqb};
 ghost use Rattle.words.specs.Words.{record-width};
 ghost use Rattle.words.specs.Answer.{place-found};
-ghost use Rattle.part.specs.Part.{own-fault};
 ghost use Rattle.tree.specs.Cells.{cell-width};
 ghost use Rattle.rules.specs.Cell.{cells-of, first-child};
 ghost use Rattle.rules.specs.PartLowest.{part-kept};
@@ -18,7 +17,7 @@ ghost use Rattle.rules.specs.Calls.{items};
 ghost use Rattle.cells.specs.Read.{cell-of};
 ghost use Rattle.cells.specs.Steps.{cell-at, Word, followed, Lengths, Last, Front, own-test, count-test, range-test, stray-test, cell-test, Given};
 ghost use Rattle.cells.specs.Open.{in-place, lowered, Read-link, Put, Pushed};
-ghost use Rattle.cells.specs.Around.{Staying, around-broken};
+ghost use Rattle.cells.specs.Parts.{past-parent, Room};
 use tree::CELL_WIDTH;
 use tree::COUNT;
 use tree::FIRST;
@@ -115,79 +114,39 @@ fn last_part(cells: &[u32], n: usize) -> usize
     0
 }
 
-// A packed word as a word.
-fn word(x: u16) -> u32
-    ensures { λ r. ⌜ r ≡ x ⌝ }
-{
-    x as u32
-}
-
-// How many of the `top` records around go on past the word offset.
-fn staying(work: &[u32], at: usize, top: usize, off: usize) -> usize
-    requires { ⌜ at + top * 2 ≤ length (now work) ⌝ }
-    ensures { λ r. ⌜ Staying (now (work .entry)) at top off r ⌝ }
-{
-    let mut t = top;
-    while 0 < t {
-        if off < index(work[at + (t - 1) * 2]) {
-            return t;
-        }
-        t -= 1;
-    }
-    t
-}
-
-// 17 to 19 at record i, by itself.
-fn entry_broken(part: &[u16], types: u32, i: usize) -> bool
-    requires { ⌜ i * record-width + record-width ≤ length (now part) ⌝ }
-    ensures { λ r. ⌜ r ≡ not (eqb (own-fault (now (part .entry)) types i) 0) ⌝ }
-{
-    let at = i * RECORD_WIDTH;
-    if types <= word(part[at]) {
-        return true;
-    }
-    if part[at + 2] < part[at + 1] {
-        return true;
-    }
-    let stop = words::wide(part[at + 3]);
-    if stop < at + RECORD_WIDTH {
-        return true;
-    }
-    if part.len() < stop {
-        return true;
-    }
-    stop % RECORD_WIDTH != 0
-}
-
-// 20, and an end past the end of what is around: t records, or else the part of the length `len`.
-fn around_broken(work: &[u32], at: usize, t: usize, len: u32, stop: u32, end: u32) -> bool
-    requires { ⌜ at + t * 2 ≤ length (now work) ⌝ }
-    ensures { λ r. ⌜ r ≡ around-broken (now (work .entry)) at t len stop end ⌝ }
+// Does a record that ends at `end` end past its parent? The ends of the t records around it stand in `work` from `at` on.
+fn past_parent(work: &[u32], at: usize, t: usize, end: u32) -> bool
+    requires { ⌜ at + t ≤ length (now work) ⌝ }
+    ensures { λ r. ⌜ r ≡ past-parent (now (work .entry)) at t end ⌝ }
 {
     if t == 0 {
-        return len < end;
+        return false;
     }
-    if work[at + (t - 1) * 2] < stop {
-        return true;
-    }
-    work[at + (t - 1) * 2 + 1] < end
+    work[at + (t - 1)] < end
 }
 
 // Where the next record starts at the earliest: at the end of the outermost record that ended, or at `low`.
 fn earliest_start(work: &[u32], at: usize, t: usize, top: usize, low: u32) -> u32
-    requires { ⌜ (t ≤ top) × (at + top * 2 ≤ length (now work)) ⌝ }
-    ensures { λ r. ⌜ r ≡ cond (ltb t top) (getD (now (work .entry)) (at + t * 2 + 1) 0) low ⌝ }
+    requires { ⌜ (t ≤ top) × (at + top ≤ length (now work)) ⌝ }
+    ensures { λ r. ⌜ r ≡ cond (ltb t top) (getD (now (work .entry)) (at + t) 0) low ⌝ }
 {
     if t < top {
-        return work[at + t * 2 + 1];
+        return work[at + t];
     }
     low
 }
 
-// Does a part of this length keep the rules: 16 to 20, and its records' ranges? `work` is used from `at` on: the records
-// around the present one, two words each.
-fn part_kept(part: &[u16], types: u32, len: u32, work: &mut [u32], at: usize) -> bool
-    requires { ⌜ at + length (now part) ≤ length (now work) ⌝ }
+// Does a part of this length keep the rules: 16 to 20, the greatest end within the length, and its records' ranges? `ends` has room for
+// the end indices of the records around the present one; their ends stand in `work` from `at` on.
+fn part_kept(
+    part: &[u16],
+    types: u32,
+    len: u32,
+    ends: &mut [u16],
+    work: &mut [u32],
+    at: usize,
+) -> bool
+    requires { ⌜ Room (length (now part)) at (length (now ends)) (length (now work)) ⌝ }
     requires { ⌜ types ≤ 65536 ⌝ }
     ensures { λ r. ⌜ r ≡ part-kept types len (now (part .entry)) ⌝ }
     ensures { λ _. ⌜ Front at (now (work .entry)) (now (work .exit)) ⌝ }
@@ -196,30 +155,34 @@ fn part_kept(part: &[u16], types: u32, len: u32, work: &mut [u32], at: usize) ->
         return false;
     }
     let n = part.len() / RECORD_WIDTH;
-    let mut top: usize = 0;
+    let mut s = part::Progress {
+        fault: 0,
+        top: 0,
+        greatest: 0,
+        deepest: 0,
+    };
     let mut low: u32 = 0;
     let mut i: usize = 0;
     while i < n {
-        if entry_broken(part, types, i) {
+        let next = part::check_record(part, types, 0, i, ends, s);
+        if next.fault != 0 {
             return false;
         }
-        let start = word(part[i * RECORD_WIDTH + 1]);
-        let end = word(part[i * RECORD_WIDTH + 2]);
-        let stop = word(part[i * RECORD_WIDTH + 3]);
-        let t = staying(&*work, at, top, i * RECORD_WIDTH);
-        if around_broken(&*work, at, t, len, stop, end) {
+        let t = next.top - 1;
+        let start = words::word(part[i * RECORD_WIDTH + 1]);
+        let end = words::word(part[i * RECORD_WIDTH + 2]);
+        if past_parent(&*work, at, t, end) {
             return false;
         }
-        if start < earliest_start(&*work, at, t, top, low) {
+        if start < earliest_start(&*work, at, t, s.top, low) {
             return false;
         }
-        work[at + t * 2] = stop;
-        work[at + t * 2 + 1] = end;
-        top = t + 1;
+        work[at + t] = end;
+        s = next;
         low = start;
         i += 1;
     }
-    true
+    words::word(s.greatest) <= len
 }
 
 // Cell i + 1.
@@ -373,10 +336,11 @@ fn part_broken(
     words: &[u16],
     types: u32,
     w: usize,
+    ends: &mut [u16],
     work: &mut [u32],
     at: usize,
 ) -> bool
-    requires { ⌜ at + length (now words) ≤ length (now work) ⌝ }
+    requires { ⌜ Room (length (now words)) at (length (now ends)) (length (now work)) ⌝ }
     requires { ⌜ types ≤ 65536 ⌝ }
     ensures { λ r. ⌜ r ≡ part-broken types (now (words .entry)) w (cell-of k) ⌝ }
     ensures { λ _. ⌜ Front at (now (work .entry)) (now (work .exit)) ⌝ }
@@ -393,7 +357,7 @@ fn part_broken(
         return true;
     }
     let part = &words[first..end];
-    !part_kept(part, types, k.len, work, at)
+    !part_kept(part, types, k.len, ends, work, at)
 }
 
 // Does cell i + 1 break a rule other than its place? d is the link that names it.
@@ -404,11 +368,12 @@ fn cell_broken(
     i: usize,
     w: usize,
     d: Link,
+    ends: &mut [u16],
     work: &mut [u32],
     at: usize,
 ) -> bool
     requires { ⌜ (i < g .n) × (g .n ≤ at) ⌝ }
-    requires { ⌜ at + length (now words) ≤ length (now work) ⌝ }
+    requires { ⌜ Room (length (now words)) at (length (now ends)) (length (now work)) ⌝ }
     requires { ⌜ g .types ≤ 65536 ⌝ }
     ensures { λ r. ⌜ r ≡ cell-test (g .types) (now (words .entry)) (g .n) (g .last) i w (now (work .entry)) (d .after) (d .within) (d .base) (cell-of k) ⌝ }
     ensures { λ _. ⌜ Front at (now (work .entry)) (now (work .exit)) ⌝ }
@@ -422,7 +387,7 @@ fn cell_broken(
     if range_broken(i, k, d) {
         return true;
     }
-    if part_broken(k, words, g.types, w, work, at) {
+    if part_broken(k, words, g.types, w, ends, work, at) {
         return true;
     }
     stray_broken(words.len(), g, i, k)
@@ -535,9 +500,17 @@ fn read_link(work: &[u32], n: usize, top: usize) -> Link
 }
 
 // The number of the lowest cell that breaks a rule, 0 for none. The chain lengths stand at the front of `work`, then the
-// open links, four words each; the part check uses what follows.
-fn check_cells(cells: &[u32], words: &[u16], g: Setting, start: u32, work: &mut [u32]) -> usize
+// open links, four words each; the part check uses what follows, and `ends` for end indices.
+fn check_cells(
+    cells: &[u32],
+    words: &[u16],
+    g: Setting,
+    start: u32,
+    ends: &mut [u16],
+    work: &mut [u32],
+) -> usize
     requires { ⌜ Given (now cells) (g .n) (length (now words)) (g .types) (g .last) (now work) ⌝ }
+    requires { ⌜ min (length (now words) / record-width) 16383 ≤ length (now ends) ⌝ }
     ensures { λ r. ⌜ r ≡ lowest-from (g .types) (now (words .entry)) (g .n) 1 0 (top-named start ∷ []) (cells-of (now (cells .entry))) ⌝ }
 {
     let n = g.n;
@@ -561,7 +534,7 @@ fn check_cells(cells: &[u32], words: &[u16], g: Setting, start: u32, work: &mut 
         }
         let d = read_link(&*work, n, s.top);
         let k = read_cell(cells, i);
-        if cell_broken(k, words, g, i, w, d, work, at) {
+        if cell_broken(k, words, g, i, w, d, ends, work, at) {
             return c;
         }
         let older = Names {
@@ -573,6 +546,36 @@ fn check_cells(cells: &[u32], words: &[u16], g: Setting, start: u32, work: &mut 
         i = c;
     }
     0
+}
+
+// The check with room for the ends of few packed records: clearing a large array would take longer than the check of a small tree.
+fn check_few(cells: &[u32], words: &[u16], g: Setting, start: u32, work: &mut [u32]) -> usize
+    requires { ⌜ Given (now cells) (g .n) (length (now words)) (g .types) (g .last) (now work) ⌝ }
+    requires { ⌜ length (now words) ≤ 1024 ⌝ }
+    ensures { λ r. ⌜ r ≡ lowest-from (g .types) (now (words .entry)) (g .n) 1 0 (top-named start ∷ []) (cells-of (now (cells .entry))) ⌝ }
+{
+    let mut ends = [0u16; 256];
+    check_cells(cells, words, g, start, &mut ends, work)
+}
+
+// The same with room for as many open ends as 16-bit end indices allow.
+fn check_many(cells: &[u32], words: &[u16], g: Setting, start: u32, work: &mut [u32]) -> usize
+    requires { ⌜ Given (now cells) (g .n) (length (now words)) (g .types) (g .last) (now work) ⌝ }
+    ensures { λ r. ⌜ r ≡ lowest-from (g .types) (now (words .entry)) (g .n) 1 0 (top-named start ∷ []) (cells-of (now (cells .entry))) ⌝ }
+{
+    let mut ends = [0u16; 16383];
+    check_cells(cells, words, g, start, &mut ends, work)
+}
+
+// The number of the lowest cell that breaks a rule, 0 for none.
+fn lowest_cell(cells: &[u32], words: &[u16], g: Setting, start: u32, work: &mut [u32]) -> usize
+    requires { ⌜ Given (now cells) (g .n) (length (now words)) (g .types) (g .last) (now work) ⌝ }
+    ensures { λ r. ⌜ r ≡ lowest-from (g .types) (now (words .entry)) (g .n) 1 0 (top-named start ∷ []) (cells-of (now (cells .entry))) ⌝ }
+{
+    if words.len() <= 1024 {
+        return check_few(cells, words, g, start, work);
+    }
+    check_many(cells, words, g, start, work)
 }
 
 // 11: "work slice below 96 × items + 96 words of 32 bits".
@@ -608,7 +611,7 @@ pub fn tree_check(
     let last = last_part(cells, n);
     chain_lengths(cells, n, work);
     let g = Setting { types, n, last };
-    let lowest = check_cells(cells, words, g, start, work);
+    let lowest = lowest_cell(cells, words, g, start, work);
     if lowest == 0 {
         return words::Found::Nothing;
     }

@@ -1,5 +1,5 @@
 // The exported functions, for C and Rust: the number is returned, and place and counts go to the front of `info`, as many as it
-// holds. Every call tells two counts; one that it does not have is 0.
+// holds. Every call tells two counts, the part check three; one that a call does not have is 0.
 ghost use mathlib.Core.Path.{_≡_};
 ghost use mathlib.Core.List.{[], _∷_, map};
 ghost use lib.ListN.{length, set};
@@ -209,19 +209,19 @@ pub extern "C" fn hulwyth_list(
     }
 }
 
-// The part check of document 01; the count is that of the records.
+// The part check of document 01; the counts are records, greatest end and deepest nesting.
 #[no_mangle]
 pub extern "C" fn hulwyth_part_check(types: u32, words: &[u16], info: &mut [u32]) -> u32
-    ensures { λ r. ⌜ record { number = r; info = now (info .exit); outputs = [] } ≡ told 2 (part-check (now (words .entry)) types) (now (info .entry)) ⌝ }
+    ensures { λ r. ⌜ record { number = r; info = now (info .exit); outputs = [] } ≡ told 3 (part-check (now (words .entry)) types) (now (info .entry)) ⌝ }
 {
     let answer = part::part_check(words, types);
     match answer {
-        part::Checked::Records(count) => {
-            tell(info, &[0, count, 0]);
+        part::Checked::Records(count, greatest, deepest) => {
+            tell(info, &[0, count, greatest as usize, deepest]);
             return 0;
         }
         part::Checked::Refused(number, place) => {
-            tell(info, &[place, 0, 0]);
+            tell(info, &[place, 0, 0, 0]);
             return number;
         }
     }

@@ -12,6 +12,7 @@ use borrow.Author.Tests.{eq-eqb, ne-eqb, ltb-false, eqb-true, not-false}
 use lib.Dec.{ltb, eqb}
 use lib.ListN.{length, getD, take, drop}
 use Rattle.part.proofs.Faults.{part-sound}
+use Rattle.part.proofs.GreatestEnd.{greatest-above}
 use Rattle.tree.specs.Trees.{nodes}
 use Rattle.tree.specs.Cells.{decode, decode-from, absolute, cells, tree-cells, cell-width, cell-kind, cell-length, part-at}
 use Rattle.tree.specs.Calls.{materialise-cells}
@@ -113,7 +114,7 @@ module _ (T : ℕ) (cs ws : List ℕ) (ok : bad-cell T 0 cs ws ≡ none) where
       let r = part-rules (part-at cs ws i) T (cell-length cs i) (f .kept e) in
       record {
         inside = f .inside e;
-        starts = λ j m. omega (arith, r .ends j (omega arith), (part-sound (part-at cs ws i) T (r .counts) (r .passes) j (omega arith)) .ordered, f .ends e);
+        starts = λ j m. omega (arith, r .ends, greatest-above (part-at cs ws i) j m, (part-sound (part-at cs ws i) T (r .counts) (r .passes) j (omega arith)) .ordered, f .ends e);
       }
 
   whole : ahead cs ws 0 ≡ decode ws cs

@@ -1,7 +1,7 @@
 -- Laws of the part check: the fault of a record, one record more, and what an accepted part says of each record.
 -- Assumes nothing.
 use mathlib.Core.Path.{_≡_, refl, sym, _∙_}
-use mathlib.Core.List.{List, [], _∷_}
+use mathlib.Core.List.{List}
 use mathlib.Core.Bool.{true≢false, Bool, true, false, cond, not, _&&_, _||_, or-true}
 use Prim.Native.Nat.{ℕ, zero, suc, _+_, _-_, _*_, _/_, _%_, _≤_, _<_}
 use native.Mathlib.Decide.{decLe, decLt, ℕ-discrete}
@@ -12,7 +12,7 @@ use lib.ListN.{length}
 use Rattle.words.specs.Outcome.{accepted, refused}
 use Rattle.words.specs.Words.{id-of, start-of, end-of}
 use Rattle.words.proofs.Outcomes.{never, passed}
-use Rattle.part.specs.Part.{end-index, own-fault, crosses, fault, faults-from, part-check}
+use Rattle.part.specs.Part.{end-index, own-fault, crosses, fault, part-counts, faults-from, part-check}
 
 -- a chain of tests that ends in 0 took none of its branches
 no-branch : (a b c d e : Bool) → _≡_ {A = ℕ} (cond a 17 (cond b 18 (cond c 19 (cond d 19 (cond (not e) 19 0))))) 0 → (a ≡ false) × (b ≡ false) × (c ≡ false) × (d ≡ false) × (e ≡ true)
@@ -96,7 +96,7 @@ from-clear w types i n l h =
     let e : n - i ≡ suc (n - (i + 1)) = omega arith in
     rw (e, eq-eqb _ _ h)
 
-pub from-end : (w : List ℕ) (types i n : ℕ) → n ≤ i → faults-from w types i (n - i) ≡ accepted (length w / 4 ∷ [])
+pub from-end : (w : List ℕ) (types i n : ℕ) → n ≤ i → faults-from w types i (n - i) ≡ accepted (part-counts w)
 unfolding faults-from
 from-end w types i n l =
     let e : n - i ≡ 0 = omega arith in
@@ -125,10 +125,27 @@ clear-from w types i (suc left) counts h j l m = go (ℕ-discrete (fault w types
     go (no n) q rest = absurd (never _ _ counts (rw (ne-eqb _ _ n) at h))
 
 -- and what it takes for a part to be accepted
-from-all : (w : List ℕ) (types i left : ℕ) → ((j : ℕ) → i ≤ j → j < i + left → fault w types j ≡ 0) → faults-from w types i left ≡ accepted (length w / 4 ∷ [])
+from-all : (w : List ℕ) (types i left : ℕ) → ((j : ℕ) → i ≤ j → j < i + left → fault w types j ≡ 0) → faults-from w types i left ≡ accepted (part-counts w)
 unfolding faults-from
 from-all w types i zero h = refl
 from-all w types i (suc left) h = rw (eq-eqb _ _ (h i (omega arith) (omega arith))) (from-all w types (i + 1) left (λ j l m. h j (omega arith) (omega arith)))
+
+-- a refusal names one of the records
+pub refused-place : (w : List ℕ) (types i left number place : ℕ) → faults-from w types i left ≡ refused number place → place < (i + left) * 4
+unfolding faults-from
+refused-place w types i zero number place h = absurd (never number place (part-counts w) (sym h))
+refused-place w types i (suc left) number place h = go (ℕ-discrete (fault w types i) 0) (refused-place w types (i + 1) left number place)
+  where
+    go : Dec (fault w types i ≡ 0) → (faults-from w types (i + 1) left ≡ refused number place → place < (i + 1 + left) * 4) → place < (i + suc left) * 4
+    go (yes z) rest = omega (arith, rest (rw (eq-eqb (fault w types i) 0 z) at h))
+    go (no n) rest =
+        let e : refused (fault w types i) (i * 4) ≡ refused number place = rw (ne-eqb (fault w types i) 0 n) at h in
+        let p : i * 4 ≡ place = cc in
+        omega arith
+
+-- what is accepted is told with the counts of the part
+pub accepted-counts : (w : List ℕ) (types i left : ℕ) (counts : List ℕ) → faults-from w types i left ≡ accepted counts → accepted counts ≡ accepted (part-counts w)
+accepted-counts w types i left counts h = sym h ∙ from-all w types i left (clear-from w types i left counts h)
 
 -- What the part check asks: T is at most 65,536, the words are whole records, each is sound, and none ends past a record
 -- that encloses it.
@@ -152,7 +169,7 @@ passes w types counts h =
       nested = λ i j l m above. crosses-all w i (i * 4) (end-index w i) (fault-parts w types i (clear i l) .1) j m above;
     }
 
-pub passes-check : (w : List ℕ) (types : ℕ) → Passes w types → part-check w types ≡ accepted (length w / 4 ∷ [])
+pub passes-check : (w : List ℕ) (types : ℕ) → Passes w types → part-check w types ≡ accepted (part-counts w)
 unfolding part-check
 passes-check w types p = rw (le-ltb _ _ (p .few-types), eq-eqb _ _ (p .whole)) (from-all w types 0 (length w / 4) clear)
   where

@@ -1,3 +1,8 @@
+pub mod Rebased
 pub mod Faults
+pub mod Alike
+pub mod OneRecord
 pub mod OpenEnds
+pub mod Counts
+pub mod GreatestEnd
 pub mod Constants

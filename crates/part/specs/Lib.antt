@@ -1,3 +1,4 @@
 pub mod Part
+pub mod Rebased
 pub mod Answer
 pub mod Open

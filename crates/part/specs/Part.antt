@@ -1,7 +1,7 @@
 -- The part check of document 01: 1, 16, then 17 to 20 record by record.
 -- A part is a list of words, four to a record: id, start, end, end index. Record i stands at word offset i * 4, which is
 -- the place of a refusal at it.
-use Prim.Native.Nat.{ℕ, suc, zero, _+_, _*_, _/_, _%_}
+use Prim.Native.Nat.{ℕ, suc, zero, _+_, _*_, _/_, _%_, max}
 use mathlib.Core.List.{List, [], _∷_}
 use mathlib.Core.Bool.{Bool, false, cond, not, _&&_, _||_}
 use lib.ListN.{length}
@@ -34,9 +34,35 @@ fault w types i =
     (cond (crosses w i (i * record-width) (end-index w i)) 20 0)
     (own-fault w types i)
 
--- the first fault among `left` records from record i on; without one the count of records
+-- "the greatest end of any record (0 for an empty part)"
+unfoldable pub greatest-end : List ℕ → ℕ
+greatest-end (id ∷ start ∷ end ∷ index ∷ rest) = max end (greatest-end rest)
+greatest-end [] = 0
+greatest-end (id ∷ []) = 0
+greatest-end (id ∷ start ∷ []) = 0
+greatest-end (id ∷ start ∷ end ∷ []) = 0
+
+-- how many of the first n records enclose the offset `at`
+unfoldable pub enclosing : List ℕ → ℕ → ℕ → ℕ
+enclosing w zero at = 0
+enclosing w (suc n) at = cond (ltb at (end-index w n)) 1 0 + enclosing w n at
+
+-- the deepest nesting of `left` records from record i on: "1 for records held by no other"
+unfoldable pub deepest-from : List ℕ → ℕ → ℕ → ℕ
+deepest-from w i zero = 0
+deepest-from w i (suc left) = max (enclosing w i (i * record-width) + 1) (deepest-from w (i + 1) left)
+
+-- "its deepest nesting (1 for records held by no other, 0 for an empty part)"
+abbrev pub deepest-nesting : List ℕ → ℕ
+deepest-nesting w = deepest-from w 0 (length w / record-width)
+
+-- the counts of a part: its records, the greatest end of any record, its deepest nesting
+abbrev pub part-counts : List ℕ → List ℕ
+part-counts w = length w / record-width ∷ greatest-end w ∷ deepest-nesting w ∷ []
+
+-- the first fault among `left` records from record i on; without one the counts of the part
 unfoldable pub faults-from : List ℕ → ℕ → ℕ → ℕ → Outcome
-faults-from w types i zero = accepted (length w / record-width ∷ [])
+faults-from w types i zero = accepted (part-counts w)
 faults-from w types i (suc left) =
     let rest = faults-from w types (i + 1) left in
     cond (eqb (fault w types i) 0) rest (refused (fault w types i) (i * record-width))

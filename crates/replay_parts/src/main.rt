@@ -62,13 +62,19 @@ fn narrow(numbers: &[u64], words: &mut [u16]) -> bool
 fn answer_check(types: u32, part: &[u16]) {
     let answer = part::part_check(part, types);
     match answer {
-        Checked::Records(count) => {
-            text::print(b"records ");
-            print_number(count as u64);
-            text::print(b"\n");
-        }
+        Checked::Records(count, end, nesting) => print_counts(count, end, nesting),
         Checked::Refused(_, _) => text::print(b"refused\n"),
     }
+}
+
+fn print_counts(count: usize, end: u16, nesting: usize) {
+    text::print(b"records ");
+    print_number(count as u64);
+    text::print(b" end ");
+    print_number(words::wide64(end));
+    text::print(b" nesting ");
+    print_number(nesting as u64);
+    text::print(b"\n");
 }
 
 // Whether two numbers are of 32 bits, as bounds are.

@@ -6,7 +6,7 @@ use mathlib.Core.List.{List, [], _∷_}
 use Prim.Native.Nat.{ℕ}
 use lib.ListN.{replicate}
 use Rattle.words.specs.Outcome.{accepted, refused, number-of, Result}
-use Rattle.part.specs.Part.{part-check, faults-from, fault, own-fault, crosses}
+use Rattle.part.specs.Part.{greatest-end, part-check, faults-from, fault, own-fault, crosses}
 use Rattle.records.specs.Forest.{line, depth-below}
 use Rattle.tree.specs.Trees.{_⊕_, nodes, kids-of, siblings}
 use Rattle.tree.specs.Materialise.{within, beyond, unpack, materialise}
@@ -15,22 +15,22 @@ use Rattle.tree.specs.Listing.{node-line, node-below, listing, lines}
 use Rattle.tree.specs.Cells.{relative, absolute, packed, unless-none, kind, id-word, cells, leading, following, cell-tree, decode-from, decode, tree-cells}
 use Rattle.tree.specs.Calls.{room, written, materialise-cells, balance-cells, list-cells}
 use Rattle.rules.specs.Cell.{cells-of, first-child}
-use Rattle.rules.specs.PartLowest.{still, earliest, bound, ranges, part-kept}
+use Rattle.rules.specs.PartLowest.{still, earliest, ends-inside, ranges, part-kept}
 use Rattle.rules.specs.Lowest.{chain, chains, any-part, named, top-broken, kind-broken, id-broken, link-broken, count-broken, place-broken, order-broken, inside-broken, end-broken, part-broken, stray-broken, any-of, broken, next-named, first-named, words-end, lowest-from, top-named, bad-cell}
 use Rattle.rules.specs.Calls.{items, unless-bad, result-room, lines-room, handed-in, materialise-call, balance-room, balance-call, list-call}
 use Rattle.rules.proofs.ListedInTurn.{Taken, cells-out}
 
 -- the calls with all that it takes to compute them
 unfoldable pub materialised : (T : ℕ) (cs ws : List ℕ) (work : ℕ) (out : List ℕ) → Result
-unfolding bad-cell cells-of first-child chain chains any-part named top-broken kind-broken id-broken link-broken count-broken place-broken order-broken inside-broken end-broken part-broken stray-broken any-of broken next-named first-named words-end lowest-from top-named part-kept ranges bound earliest still part-check faults-from fault own-fault crosses items unless-bad result-room room handed-in materialise-call _⊕_ nodes within beyond unpack materialise relative absolute packed unless-none kind id-word cells leading following cell-tree decode-from decode tree-cells siblings materialise-cells
+unfolding bad-cell cells-of first-child chain chains any-part named top-broken kind-broken id-broken link-broken count-broken place-broken order-broken inside-broken end-broken part-broken stray-broken any-of broken next-named first-named words-end lowest-from top-named part-kept greatest-end ranges ends-inside earliest still part-check faults-from fault own-fault crosses items unless-bad result-room room handed-in materialise-call _⊕_ nodes within beyond unpack materialise relative absolute packed unless-none kind id-word cells leading following cell-tree decode-from decode tree-cells siblings materialise-cells
 materialised T cs ws work out = materialise-call T cs ws work out
 
 unfoldable balances : (T : ℕ) (cs ws : List ℕ) (work : ℕ) (out words : List ℕ) → Result
-unfolding bad-cell cells-of first-child chain chains any-part named top-broken kind-broken id-broken link-broken count-broken place-broken order-broken inside-broken end-broken part-broken stray-broken any-of broken next-named first-named words-end lowest-from top-named part-kept ranges bound earliest still part-check faults-from fault own-fault crosses items unless-bad result-room room handed-in balance-room balance-call nodes relative absolute packed unless-none kind id-word cells leading following cell-tree decode-from decode tree-cells siblings balanced balance-cells written
+unfolding bad-cell cells-of first-child chain chains any-part named top-broken kind-broken id-broken link-broken count-broken place-broken order-broken inside-broken end-broken part-broken stray-broken any-of broken next-named first-named words-end lowest-from top-named part-kept greatest-end ranges ends-inside earliest still part-check faults-from fault own-fault crosses items unless-bad result-room room handed-in balance-room balance-call nodes relative absolute packed unless-none kind id-word cells leading following cell-tree decode-from decode tree-cells siblings balanced balance-cells written
 balances T cs ws work out words = balance-call T false cs ws work out words
 
 unfoldable pub listed : (T F S : ℕ) (cs ws : List ℕ) (work : ℕ) (out : List ℕ) → Result
-unfolding bad-cell cells-of first-child chain chains any-part named top-broken kind-broken id-broken link-broken count-broken place-broken order-broken inside-broken end-broken part-broken stray-broken any-of broken next-named first-named words-end lowest-from top-named part-kept ranges bound earliest still part-check faults-from fault own-fault crosses items unless-bad lines-room list-call _⊕_ nodes within beyond unpack materialise absolute leading following cell-tree decode-from decode lines list-cells listing node-line node-below line depth-below kids-of
+unfolding bad-cell cells-of first-child chain chains any-part named top-broken kind-broken id-broken link-broken count-broken place-broken order-broken inside-broken end-broken part-broken stray-broken any-of broken next-named first-named words-end lowest-from top-named part-kept greatest-end ranges ends-inside earliest still part-check faults-from fault own-fault crosses items unless-bad lines-room list-call _⊕_ nodes within beyond unpack materialise absolute leading following cell-tree decode-from decode lines list-cells listing node-line node-below line depth-below kids-of
 listed T F S cs ws work out = list-call T F S cs ws work out
 
 -- P with b 1,024 and with b 1

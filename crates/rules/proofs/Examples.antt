@@ -3,16 +3,17 @@ use mathlib.Core.Path.{_≡_, refl}
 use mathlib.Core.List.{List, [], _∷_}
 use mathlib.Core.Option.{Option, none, some}
 use Prim.Native.Nat.{ℕ}
-use Rattle.part.specs.Part.{part-check, faults-from, fault, own-fault, crosses}
+use Rattle.words.specs.Outcome.{accepted}
+use Rattle.part.specs.Part.{greatest-end, part-check, faults-from, fault, own-fault, crosses, enclosing, deepest-from}
 use Rattle.rules.specs.Cell.{cells-of, first-child}
 use Rattle.rules.specs.Rules.{Place}
-use Rattle.rules.specs.PartLowest.{still, earliest, bound, ranges, part-kept}
+use Rattle.rules.specs.PartLowest.{still, earliest, ends-inside, ranges, part-kept}
 use Rattle.rules.specs.Lowest.{chain, chains, any-part, named, top-broken, kind-broken, id-broken, link-broken, count-broken, place-broken, order-broken, inside-broken, end-broken, part-broken, stray-broken, any-of, broken, next-named, first-named, words-end, lowest-from, top-named, bad-cell}
 use Rattle.rules.proofs.SamePlace.{same-place}
 
 -- refusal 15 with all that it takes to compute it
 unfoldable says : (T S : ℕ) (cs ws : List ℕ) → Option ℕ
-unfolding bad-cell cells-of first-child chain chains any-part named top-broken kind-broken id-broken link-broken count-broken place-broken order-broken inside-broken end-broken part-broken stray-broken any-of broken next-named first-named words-end lowest-from top-named part-kept ranges bound earliest still part-check faults-from fault own-fault crosses
+unfolding bad-cell cells-of first-child chain chains any-part named top-broken kind-broken id-broken link-broken count-broken place-broken order-broken inside-broken end-broken part-broken stray-broken any-of broken next-named first-named words-end lowest-from top-named part-kept greatest-end ranges ends-inside earliest still part-check faults-from fault own-fault crosses
 says T S cs ws = bad-cell T S cs ws
 
 -- P, b 1,024, of document 01, its words, and P with b 1
@@ -25,6 +26,13 @@ packed-words = 3 ∷ 0 ∷ 6 ∷ 12 ∷ 1 ∷ 0 ∷ 2 ∷ 8 ∷ 2 ∷ 3 ∷ 5 �
 p-1024 : says 4 0 packed-cells packed-words ≡ none
 unfolding says
 p-1024 = refl
+
+-- its part passes 16 to 20 and its greatest end is 6, its first record's: the length above, but past the length 5, at which its last record ends
+part-past-its-length :
+    (part-check packed-words 4 ≡ accepted (3 ∷ 6 ∷ 2 ∷ []))
+    × (says 4 0 (1 ∷ 0 ∷ 0 ∷ 6 ∷ 2 ∷ 1 ∷ 0 ∷ 2 ∷ 0 ∷ 0 ∷ 5 ∷ 0 ∷ 12 ∷ 0 ∷ []) packed-words ≡ some 2)
+unfolding says part-check faults-from fault own-fault crosses greatest-end enclosing deepest-from
+part-past-its-length = (refl, refl)
 
 -- without the words that its part lies in
 words-missing : says 4 0 packed-cells [] ≡ some 2

@@ -1,6 +1,7 @@
 -- Packed parts: the rules, the one pass and the trees they hold.
 pub mod Tests
 pub mod Entries
+pub mod PartBounds
 pub mod PartTrees
 pub mod PartRead
 pub mod PartWritten

@@ -12,14 +12,14 @@ use lib.Dec.{leb}
 use lib.ListN.{length, drop, length-drop}
 use Rattle.words.specs.Words.{start-of, end-of, last-of}
 use Rattle.words.proofs.Runs.{four-at}
-use Rattle.part.specs.Part.{end-index, part-check}
+use Rattle.part.specs.Part.{end-index, greatest-end, part-check}
 use Rattle.part.proofs.Faults.{Passes, passes}
 use Rattle.rules.specs.PartRules.{Inside, Parent, Preceding, Part-kept}
-use Rattle.rules.specs.PartLowest.{Around, still, earliest, bound, ranges, is-accepted, part-kept}
+use Rattle.rules.specs.PartLowest.{Around, still, earliest, ends-inside, ranges, is-accepted, part-kept}
 use Rattle.rules.proofs.Tests.{both, none-left}
 use Rattle.rules.proofs.PartRead.{accepted-is}
 
-module _ (w : List ℕ) (T l : ℕ) (p : Passes w T) where
+module _ (w : List ℕ) (T : ℕ) (p : Passes w T) where
   -- the records around, by their numbers
   abbrev arounds : List ℕ → List Around
   arounds [] = []
@@ -167,14 +167,14 @@ module _ (w : List ℕ) (T l : ℕ) (p : Passes w T) where
 
   -- From the rules to the pass.
   module _ (kids : (i j : ℕ) → i * 4 < length w → Parent w j i → (start-of w j ≤ start-of w i) × (end-of w i ≤ end-of w j))
-      (sibs : (i j : ℕ) → i * 4 < length w → Preceding w j i → end-of w j ≤ start-of w i) (fits : (i : ℕ) → i * 4 < length w → end-of w i ≤ l) where
-    in-bound : (i : ℕ) (js : List ℕ) → i * 4 < length w → Stack i js → end-of w i ≤ bound l (arounds (left-of (i * 4) js))
-    unfolding bound
-    in-bound i js m s = go (left-of (i * 4) js) refl
+      (sibs : (i j : ℕ) → i * 4 < length w → Preceding w j i → end-of w j ≤ start-of w i) where
+    in-parent : (i : ℕ) (js : List ℕ) → i * 4 < length w → Stack i js → ends-inside (end-of w i) (arounds (left-of (i * 4) js)) ≡ true
+    unfolding ends-inside
+    in-parent i js m s = go (left-of (i * 4) js) refl
       where
-        go : (hs : List ℕ) → left-of (i * 4) js ≡ hs → end-of w i ≤ bound l (arounds hs)
-        go [] e = fits i m
-        go (h ∷ hs) e = (kids i h m (head-parent i h js hs m s e)) .1
+        go : (hs : List ℕ) → left-of (i * 4) js ≡ hs → ends-inside (end-of w i) (arounds hs) ≡ true
+        go [] e = refl
+        go (h ∷ hs) e = le-leb (end-of w i) (end-of w h) ((kids i h m (head-parent i h js hs m s e)) .1)
 
     -- a record starts after its preceding sibling, or else after its parent's start, which is lo where none of js ends at i
     not-early : (i b lo : ℕ) (js : List ℕ) → i * 4 < length w → Above b js → ((k : ℕ) → k < b → i * 4 ≤ end-index w k → Has k js) → Each i js → Falling js
@@ -210,19 +210,18 @@ module _ (w : List ℕ) (T l : ℕ) (p : Passes w T) where
             let k = (kids i h m (head-parent i h js hs m s left)) .0 in
             omega arith
 
-    rules-ranges : (left i lo : ℕ) (js : List ℕ) → i + left ≡ length w / 4 → Stack i js → Low lo js → ranges l (i * 4) lo (arounds js) (drop (i * 4) w) ≡ true
+    rules-ranges : (left i lo : ℕ) (js : List ℕ) → i + left ≡ length w / 4 → Stack i js → Low lo js → ranges (i * 4) lo (arounds js) (drop (i * 4) w) ≡ true
     unfolding ranges
-    rules-ranges zero i lo js q s low = ap (ranges l (i * 4) lo (arounds js)) (none-left (drop (i * 4) w) (omega (arith, length-drop (i * 4) w, p .whole)))
+    rules-ranges zero i lo js q s low = ap (ranges (i * 4) lo (arounds js)) (none-left (drop (i * 4) w) (omega (arith, length-drop (i * 4) w, p .whole)))
     rules-ranges (suc left) i lo js q s low =
         let m : i * 4 < length w = omega arith in
         let rest = left-of (i * 4) js in
         let next : (i + 1) * 4 ≡ i * 4 + 4 = omega arith in
         let again = rules-ranges left (i + 1) (start-of w i) (i ∷ rest) (omega arith) (stack-next i js m s) refl in
         let early : leb (earliest (i * 4) lo (arounds js)) (start-of w i) ≡ true = le-leb (earliest (i * 4) lo (arounds js)) (start-of w i) (not-early-at i lo js m s low) in
-        let late : leb (end-of w i) (bound l (arounds rest)) ≡ true = le-leb (end-of w i) (bound l (arounds rest)) (in-bound i js m s) in
-        let on : ranges l (i * 4 + 4) (start-of w i) (arounds (i ∷ rest)) (drop ((i + 1) * 4) w) ≡ true =
-        ap (λ y. ranges l y (start-of w i) (arounds (i ∷ rest)) (drop ((i + 1) * 4) w)) (sym next) ∙ again in
-        ap (ranges l (i * 4) lo (arounds js)) (four-at w i (omega arith)) ∙ rw (still-left (i * 4) js, early, late, on)
+        let on : ranges (i * 4 + 4) (start-of w i) (arounds (i ∷ rest)) (drop ((i + 1) * 4) w) ≡ true =
+        ap (λ y. ranges y (start-of w i) (arounds (i ∷ rest)) (drop ((i + 1) * 4) w)) (sym next) ∙ again in
+        ap (ranges (i * 4) lo (arounds js)) (four-at w i (omega arith)) ∙ rw (still-left (i * 4) js, early, in-parent i js m s, on)
 
   -- From the pass to the rules: around a record the others start no later, and end no earlier.
   abbrev Wide : ℕ → List ℕ → Type 0
@@ -231,20 +230,19 @@ module _ (w : List ℕ) (T l : ℕ) (p : Passes w T) where
 
   abbrev Ranged : List ℕ → Type 0
   Ranged [] = Unit {0}
-  Ranged (j ∷ js) = (start-of w j ≤ end-of w j) × (end-of w j ≤ l) × Wide j js × Ranged js
+  Ranged (j ∷ js) = (start-of w j ≤ end-of w j) × Wide j js × Ranged js
 
   -- what the rules ask of the ranges of record i
   abbrev Asked : ℕ → Type 0
   Asked i = record {
     children : (j : ℕ) → Parent w j i → (start-of w j ≤ start-of w i) × (end-of w i ≤ end-of w j);
     siblings : (j : ℕ) → Preceding w j i → end-of w j ≤ start-of w i;
-    ends : end-of w i ≤ l;
   }
 
   ranged-left : (off : ℕ) (js : List ℕ) → Ranged js → Ranged (left-of off js)
   unfolding left-of
   ranged-left off [] h = h
-  ranged-left off (j ∷ js) h = go (leb (end-index w j) off) (ranged-left off js (h .3))
+  ranged-left off (j ∷ js) h = go (leb (end-index w j) off) (ranged-left off js (h .2))
     where
       go : (b : Bool) → Ranged (left-of off js) → Ranged (elim b [ true ↦ left-of off js | false ↦ j ∷ js ])
       go true r = r
@@ -254,7 +252,7 @@ module _ (w : List ℕ) (T l : ℕ) (p : Passes w T) where
   ended : (off lo j : ℕ) (js : List ℕ) → Ranged js → (end-of w j ≤ lo) → Wide j js → end-of w j ≤ earliest off lo (arounds js)
   unfolding earliest
   ended off lo j [] r h v = h
-  ended off lo j (k ∷ ks) r h v = go (leb (end-index w k) off) (ended off (end-of w k) j ks (r .3) (v .1) (v .2))
+  ended off lo j (k ∷ ks) r h v = go (leb (end-index w k) off) (ended off (end-of w k) j ks (r .2) (v .1) (v .2))
     where
       go : (b : Bool) → end-of w j ≤ earliest off (end-of w k) (arounds ks) → end-of w j ≤ elim b [ true ↦ earliest off (end-of w k) (arounds ks) | false ↦ lo ]
       go true q = q
@@ -263,11 +261,11 @@ module _ (w : List ℕ) (T l : ℕ) (p : Passes w T) where
   ended-in : (i lo j : ℕ) (js : List ℕ) → i * 4 < length w → Each i js → Falling js → Ranged js → Has j js → end-index w j ≤ i * 4 → end-of w j ≤ earliest (i * 4) lo (arounds js)
   unfolding earliest
   ended-in i lo j [] m e f r h s = absurd h
-  ended-in i lo j (k ∷ ks) m e f r h s = go (leb (end-index w k) (i * 4)) refl (ℕ-discrete k j) (λ x. ended-in i (end-of w k) j ks m (e .2) (f .1) (r .3) x s)
+  ended-in i lo j (k ∷ ks) m e f r h s = go (leb (end-index w k) (i * 4)) refl (ℕ-discrete k j) (λ x. ended-in i (end-of w k) j ks m (e .2) (f .1) (r .2) x s)
     where
       go : (b : Bool) → leb (end-index w k) (i * 4) ≡ b → Dec (k ≡ j) → (Has j ks → end-of w j ≤ earliest (i * 4) (end-of w k) (arounds ks))
           → end-of w j ≤ elim b [ true ↦ earliest (i * 4) (end-of w k) (arounds ks) | false ↦ lo ]
-      go true q (yes z) x = subst (λ y. end-of w y ≤ earliest (i * 4) (end-of w k) (arounds ks)) z (ended (i * 4) (end-of w k) k ks (r .3) (le-refl (end-of w k)) (r .2))
+      go true q (yes z) x = subst (λ y. end-of w y ≤ earliest (i * 4) (end-of w k) (arounds ks)) z (ended (i * 4) (end-of w k) k ks (r .2) (le-refl (end-of w k)) (r .1))
       go true q (no z) x = x (h z)
       go false q (yes z) x = absurd (omega (arith, leb-false (end-index w k) (i * 4) q, ap (end-index w) z))
       go false q (no z) x =
@@ -286,7 +284,7 @@ module _ (w : List ℕ) (T l : ℕ) (p : Passes w T) where
   by-left : (off lo : ℕ) (js : List ℕ) → Ranged js → By lo js → By (earliest off lo (arounds js)) (left-of off js)
   unfolding earliest left-of
   by-left off lo [] r h = tt
-  by-left off lo (j ∷ js) r h = go (leb (end-index w j) off) (by-left off (end-of w j) js (r .3) (by-more (end-of w j) j js (r .0) (r .2)))
+  by-left off lo (j ∷ js) r h = go (leb (end-index w j) off) (by-left off (end-of w j) js (r .2) (by-more (end-of w j) j js (r .0) (r .1)))
     where
       go : (b : Bool) → By (earliest off (end-of w j) (arounds js)) (left-of off js)
           → By (elim b [ true ↦ earliest off (end-of w j) (arounds js) | false ↦ lo ]) (elim b [ true ↦ left-of off js | false ↦ j ∷ js ])
@@ -295,7 +293,7 @@ module _ (w : List ℕ) (T l : ℕ) (p : Passes w T) where
 
   low-by : (lo : ℕ) (js : List ℕ) → Ranged js → Low lo js → By lo js
   low-by lo [] r h = tt
-  low-by lo (j ∷ js) r h = (omega arith, by-more lo j js (omega arith) (r .2))
+  low-by lo (j ∷ js) r h = (omega arith, by-more lo j js (omega arith) (r .1))
 
   -- a record after those around it
   wide-ends : (i h : ℕ) (js : List ℕ) → end-of w i ≤ end-of w h → Wide h js → By (start-of w i) js → Wide i js
@@ -306,10 +304,10 @@ module _ (w : List ℕ) (T l : ℕ) (p : Passes w T) where
   by-less x y [] h b = tt
   by-less x y (j ∷ js) h b = (omega (arith, b .0), by-less x y js h (b .1))
 
-  wide-at : (i : ℕ) (js : List ℕ) → end-of w i ≤ bound l (arounds js) → Ranged js → By (start-of w i) js → Wide i js × (end-of w i ≤ l)
-  unfolding bound
-  wide-at i [] h r b = (tt, h)
-  wide-at i (j ∷ js) h r b = ((b .0, h, wide-ends i j js h (r .2) (b .1)), omega (arith, r .1))
+  wide-at : (i : ℕ) (js : List ℕ) → ends-inside (end-of w i) (arounds js) ≡ true → Ranged js → By (start-of w i) js → Wide i js
+  unfolding ends-inside
+  wide-at i [] h r b = tt
+  wide-at i (j ∷ js) h r b = let e = leb-true (end-of w i) (end-of w j) h in (b .0, e, wide-ends i j js e (r .1) (b .1))
 
   has-wide : (i j : ℕ) (js : List ℕ) → Has j js → Wide i js → (start-of w j ≤ start-of w i) × (end-of w i ≤ end-of w j)
   has-wide i j [] h v = absurd h
@@ -320,23 +318,22 @@ module _ (w : List ℕ) (T l : ℕ) (p : Passes w T) where
       go (no e) r = r (h e)
 
   module _ (i lo : ℕ) (js : List ℕ) (m : i * 4 < length w) (s : Stack i js) (r : Ranged js) (low : Low lo js)
-      (early : earliest (i * 4) lo (arounds js) ≤ start-of w i) (late : end-of w i ≤ bound l (arounds (left-of (i * 4) js))) where
-    ranged-wide : Wide i (left-of (i * 4) js) × (end-of w i ≤ l)
+      (early : earliest (i * 4) lo (arounds js) ≤ start-of w i) (late : ends-inside (end-of w i) (arounds (left-of (i * 4) js)) ≡ true) where
+    ranged-wide : Wide i (left-of (i * 4) js)
     ranged-wide =
         wide-at i (left-of (i * 4) js) late (ranged-left (i * 4) js r)
         (by-less (earliest (i * 4) lo (arounds js)) (start-of w i) (left-of (i * 4) js) early (by-left (i * 4) lo js r (low-by lo js r low)))
 
     asked : Asked i
     asked = record {
-      children = λ j k. has-wide i j (left-of (i * 4) js) (has-left (i * 4) j js (k .inside .1) (s .all j (k .inside .0) (omega (arith, k .inside .1)))) (ranged-wide .0);
+      children = λ j k. has-wide i j (left-of (i * 4) js) (has-left (i * 4) j js (k .inside .1) (s .all j (k .inside .0) (omega (arith, k .inside .1)))) ranged-wide;
       siblings = λ j k. omega (arith, early, ended-in i lo j js m (s .each) (s .falling) r (s .all j (k .before) (omega (arith, k .meets))) (omega (arith, k .meets)));
-      ends = ranged-wide .1;
     }
 
     ranged-next : Ranged (i ∷ left-of (i * 4) js)
-    ranged-next = (p .sound i m .ordered, ranged-wide .1, ranged-wide .0, ranged-left (i * 4) js r)
+    ranged-next = (p .sound i m .ordered, ranged-wide, ranged-left (i * 4) js r)
 
-  ranges-rules : (left i lo : ℕ) (js : List ℕ) → i + left ≡ length w / 4 → Stack i js → Ranged js → Low lo js → ranges l (i * 4) lo (arounds js) (drop (i * 4) w) ≡ true
+  ranges-rules : (left i lo : ℕ) (js : List ℕ) → i + left ≡ length w / 4 → Stack i js → Ranged js → Low lo js → ranges (i * 4) lo (arounds js) (drop (i * 4) w) ≡ true
       → (k : ℕ) → i ≤ k → k < i + left → Asked k
   unfolding ranges
   ranges-rules zero i lo js q s r low h k a b = absurd (omega arith)
@@ -350,31 +347,29 @@ module _ (w : List ℕ) (T l : ℕ) (p : Passes w T) where
       next = omega arith
 
       here : (leb (earliest (i * 4) lo (arounds js)) (start-of w i)
-          && (leb (end-of w i) (bound l (still (i * 4) (arounds js)))
-          && ranges l (i * 4 + 4) (start-of w i) (record { stop = last-of w i; end = end-of w i } ∷ still (i * 4) (arounds js)) (drop ((i + 1) * 4) w))) ≡ true
-      here = ap (ranges l (i * 4) lo (arounds js)) (sym (four-at w i (omega arith))) ∙ h
+          && (ends-inside (end-of w i) (still (i * 4) (arounds js))
+          && ranges (i * 4 + 4) (start-of w i) (record { stop = last-of w i; end = end-of w i } ∷ still (i * 4) (arounds js)) (drop ((i + 1) * 4) w))) ≡ true
+      here = ap (ranges (i * 4) lo (arounds js)) (sym (four-at w i (omega arith))) ∙ h
 
       early : earliest (i * 4) lo (arounds js) ≤ start-of w i
       early = leb-true (earliest (i * 4) lo (arounds js)) (start-of w i) ((both (leb (earliest (i * 4) lo (arounds js)) (start-of w i)) _ here) .0)
 
-      others : (leb (end-of w i) (bound l (still (i * 4) (arounds js)))
-          && ranges l (i * 4 + 4) (start-of w i) (record { stop = last-of w i; end = end-of w i } ∷ still (i * 4) (arounds js)) (drop ((i + 1) * 4) w)) ≡ true
+      others : (ends-inside (end-of w i) (still (i * 4) (arounds js))
+          && ranges (i * 4 + 4) (start-of w i) (record { stop = last-of w i; end = end-of w i } ∷ still (i * 4) (arounds js)) (drop ((i + 1) * 4) w)) ≡ true
       others = (both (leb (earliest (i * 4) lo (arounds js)) (start-of w i)) _ here) .1
 
-      late : end-of w i ≤ bound l (arounds (left-of (i * 4) js))
-      late =
-          subst (λ y. end-of w i ≤ bound l y) (still-left (i * 4) js)
-          (leb-true (end-of w i) (bound l (still (i * 4) (arounds js))) ((both (leb (end-of w i) (bound l (still (i * 4) (arounds js)))) _ others) .0))
+      late : ends-inside (end-of w i) (arounds (left-of (i * 4) js)) ≡ true
+      late = subst (λ y. ends-inside (end-of w i) y ≡ true) (still-left (i * 4) js) ((both (ends-inside (end-of w i) (still (i * 4) (arounds js))) _ others) .0)
 
-      rest : ranges l ((i + 1) * 4) (start-of w i) (arounds (i ∷ left-of (i * 4) js)) (drop ((i + 1) * 4) w) ≡ true
+      rest : ranges ((i + 1) * 4) (start-of w i) (arounds (i ∷ left-of (i * 4) js)) (drop ((i + 1) * 4) w) ≡ true
       rest =
-          subst (λ y. ranges l y (start-of w i) (arounds (i ∷ left-of (i * 4) js)) (drop ((i + 1) * 4) w) ≡ true) next
-          (subst (λ y. ranges l (i * 4 + 4) (start-of w i) (record { stop = last-of w i; end = end-of w i } ∷ y) (drop ((i + 1) * 4) w) ≡ true) (still-left (i * 4) js)
-          ((both (leb (end-of w i) (bound l (still (i * 4) (arounds js)))) _ others) .1))
+          subst (λ y. ranges y (start-of w i) (arounds (i ∷ left-of (i * 4) js)) (drop ((i + 1) * 4) w) ≡ true) next
+          (subst (λ y. ranges (i * 4 + 4) (start-of w i) (record { stop = last-of w i; end = end-of w i } ∷ y) (drop ((i + 1) * 4) w) ≡ true) (still-left (i * 4) js)
+          ((both (ends-inside (end-of w i) (still (i * 4) (arounds js))) _ others) .1))
 
       go : Dec (i ≡ k)
           → (Stack (i + 1) (i ∷ left-of (i * 4) js) → Ranged (i ∷ left-of (i * 4) js)
-          → ranges l ((i + 1) * 4) (start-of w i) (arounds (i ∷ left-of (i * 4) js)) (drop ((i + 1) * 4) w) ≡ true → i + 1 ≤ k → k < i + 1 + left → Asked k) → Asked k
+          → ranges ((i + 1) * 4) (start-of w i) (arounds (i ∷ left-of (i * 4) js)) (drop ((i + 1) * 4) w) ≡ true → i + 1 ≤ k → k < i + 1 + left → Asked k) → Asked k
       go (yes e) x = subst Asked e (asked i lo js m s r low early late)
       go (no e) x = x (stack-next i js m s) (ranged-next i lo js m s r low early late) rest (omega arith) (omega arith)
 
@@ -382,10 +377,10 @@ module _ (w : List ℕ) (T l : ℕ) (p : Passes w T) where
   stack-none = record { all = λ k a. absurd (omega arith); each = tt; falling = tt }
 
   pub rules-pass : ((i j : ℕ) → i * 4 < length w → Parent w j i → (start-of w j ≤ start-of w i) × (end-of w i ≤ end-of w j))
-      → ((i j : ℕ) → i * 4 < length w → Preceding w j i → end-of w j ≤ start-of w i) → ((i : ℕ) → i * 4 < length w → end-of w i ≤ l) → ranges l 0 0 [] w ≡ true
-  rules-pass kids sibs fits = rules-ranges kids sibs fits (length w / 4) 0 0 [] (omega arith) stack-none refl
+      → ((i j : ℕ) → i * 4 < length w → Preceding w j i → end-of w j ≤ start-of w i) → ranges 0 0 [] w ≡ true
+  rules-pass kids sibs = rules-ranges kids sibs (length w / 4) 0 0 [] (omega arith) stack-none refl
 
-  pub pass-rules : ranges l 0 0 [] w ≡ true → (i : ℕ) → i * 4 < length w → Asked i
+  pub pass-rules : ranges 0 0 [] w ≡ true → (i : ℕ) → i * 4 < length w → Asked i
   pass-rules h i m = ranges-rules (length w / 4) 0 0 [] (omega arith) stack-none tt refl h i (omega arith) (omega (arith, p .whole))
 
 module _ (w : List ℕ) (T l : ℕ) where
@@ -395,15 +390,16 @@ module _ (w : List ℕ) (T l : ℕ) where
   part-rules h =
       let (a, b) = both (is-accepted (part-check w T)) _ h in
       let (counts, ok) = accepted-is (part-check w T) a in
-      let each = pass-rules w T l (passes w T counts ok) b in
+      let (c, d) = both (leb (greatest-end w) l) _ b in
+      let each = pass-rules w T (passes w T counts ok) d in
       record {
         counts = counts;
         passes = ok;
         children = λ i j m. each i m .children j;
         siblings = λ i j m. each i m .siblings j;
-        ends = λ i m. each i m .ends;
+        ends = leb-true (greatest-end w) l c;
       }
 
   pub rules-part : Part-kept w T l → part-kept T l w ≡ true
   unfolding part-kept
-  rules-part k = rw (k .passes, rules-pass w T l (passes w T (k .counts) (k .passes)) (k .children) (k .siblings) (k .ends))
+  rules-part k = rw (k .passes, le-leb (greatest-end w) l (k .ends), rules-pass w T (passes w T (k .counts) (k .passes)) (k .children) (k .siblings))

@@ -19,8 +19,9 @@ use Rattle.tree.specs.Cells.{id-word}
 use Rattle.tree.proofs.PackLaws.{within-zero, beyond-zero}
 use Rattle.tree.proofs.PartReadBack.{within-beyond}
 use Rattle.tree.proofs.PartForms.{open-ends, past-enclosing, entry-fault, entries-fault}
-use Rattle.rules.specs.PartLowest.{Around, still, earliest, bound, ranges, is-accepted, part-kept}
+use Rattle.rules.specs.PartLowest.{Around, still, earliest, is-accepted, part-kept}
 use Rattle.rules.proofs.Tests.{both}
+use Rattle.rules.proofs.PartBounds.{bound, ranges-within, kept-as-before}
 use Rattle.rules.proofs.Entries.{Fine, fine, no-fault}
 use Rattle.rules.proofs.PartTrees.{stops, open-ends-stops, Entries, entries-within, entries-unpack, spelled-⊕}
 use Rattle.tree.specs.Well.{Plain, Parts, Short, spelled}
@@ -131,11 +132,11 @@ module _ (T p l n : ℕ) where
     early : earliest off lo outer ≤ s
     nest : Nest x e (still off outer)
     entries-left : (entries-fault T n (off + 4) (x ∷ stops (still off outer)) ws) .0 ≡ 0
-    ranges-left : ranges l (off + 4) s (record { stop = x; end = e } ∷ still off outer) ws ≡ true
+    ranges-left : ranges-within l (off + 4) s (record { stop = x; end = e } ∷ still off outer) ws ≡ true
 
   step : (off lo : ℕ) (outer : List Around) (i s e x : ℕ) (ws : List ℕ) → Nest off lo outer
-      → (entries-fault T n off (stops outer) (i ∷ s ∷ e ∷ x ∷ ws)) .0 ≡ 0 → ranges l off lo outer (i ∷ s ∷ e ∷ x ∷ ws) ≡ true → Step off lo outer i s e x ws
-  unfolding entries-fault ranges
+      → (entries-fault T n off (stops outer) (i ∷ s ∷ e ∷ x ∷ ws)) .0 ≡ 0 → ranges-within l off lo outer (i ∷ s ∷ e ∷ x ∷ ws) ≡ true → Step off lo outer i s e x ws
+  unfolding entries-fault ranges-within
   step off lo outer i s e x ws h c r =
       let outer′ = still off outer in
       let around = open-ends off (stops outer) in
@@ -182,7 +183,7 @@ module _ (T p l n : ℕ) where
   read-nil off lo outer q h = record { lies = lies-nil off lo outer q h; spells = refl }
 
   part-read : (ws : List ℕ) (off lo : ℕ) (outer : List Around) → n % 4 ≡ 0 → off % 4 ≡ 0 → off + length ws ≡ n → Nest off lo outer
-      → (entries-fault T n off (stops outer) ws) .0 ≡ 0 → ranges l off lo outer ws ≡ true → Read off lo outer ws
+      → (entries-fault T n off (stops outer) ws) .0 ≡ 0 → ranges-within l off lo outer ws ≡ true → Read off lo outer ws
   part-read [] off lo outer m z q h c r = read-nil off lo outer (omega arith) h
   part-read (i ∷ []) off lo outer m z q h c r = absurd (omega arith)
   part-read (i ∷ s ∷ []) off lo outer m z q h c r = absurd (omega arith)
@@ -205,9 +206,8 @@ short-of (w ∷ ws) f = (f 0, short-of ws (λ j. f (suc j)))
 
 -- a part of 16-bit words that keeps the rules
 pub short-parts : (T p l : ℕ) (ws : List ℕ) → Short ws → part-kept T l ws ≡ true → Parts T p l ws
-unfolding part-kept
 short-parts T p l ws w h =
-    let (a, b) = both (is-accepted (part-check ws T)) _ h in
+    let (a, b) = both (is-accepted (part-check ws T)) _ (sym (kept-as-before T l ws) ∙ h) in
     let (counts, ok) = accepted-is (part-check ws T) a in
     let r = part-read T p l (length ws) ws 0 0 [] (part-whole ws T counts ok) refl (omega arith) (record { low = omega arith; room = omega arith }) (no-fault T ws counts ok) b in
     record { whole = r .spells; ranges = rw add-zero at (r .lies); words = w }

@@ -13,14 +13,15 @@ use Rattle.tree.specs.Materialise.{unpack}
 use Rattle.tree.specs.Cells.{id-word}
 use Rattle.tree.proofs.WellLaws.{well-≤}
 use Rattle.tree.proofs.PartLaws.{parts-accepted}
-use Rattle.rules.specs.PartLowest.{Around, still, earliest, bound, ranges, part-kept}
+use Rattle.rules.specs.PartLowest.{Around, still, earliest, part-kept}
+use Rattle.rules.proofs.PartBounds.{bound, ranges-within, kept-as-before}
 use Rattle.rules.proofs.PartTrees.{Entries, entries-unpack}
 use Rattle.tree.specs.Well.{Plain, Parts, spelled}
 
 -- T types, a part that starts at p with the length l
 module _ (T p l : ℕ) where
-  pop-ranges : (off lo : ℕ) (a : Around) (outer : List Around) (ws : List ℕ) → a .stop ≤ off → ranges l off lo (a ∷ outer) ws ≡ ranges l off (a .end) outer ws
-  unfolding ranges still earliest
+  pop-ranges : (off lo : ℕ) (a : Around) (outer : List Around) (ws : List ℕ) → a .stop ≤ off → ranges-within l off lo (a ∷ outer) ws ≡ ranges-within l off (a .end) outer ws
+  unfolding ranges-within still earliest
   pop-ranges off lo a outer [] h = refl
   pop-ranges off lo a outer (i ∷ []) h = refl
   pop-ranges off lo a outer (i ∷ s ∷ []) h = refl
@@ -49,13 +50,13 @@ module _ (T p l : ℕ) where
   fin lo (part s k ws rest) = fin ((s + k) - p) rest
 
   ranges-step : (off lo : ℕ) (outer : List Around) (i s e x : ℕ) (ws : List ℕ) → To (suc off) outer → lo ≤ s → e ≤ bound l outer
-      → ranges l off lo outer (i ∷ s ∷ e ∷ x ∷ ws) ≡ ranges l (off + 4) s (record { stop = x; end = e } ∷ outer) ws
-  unfolding ranges
+      → ranges-within l off lo outer (i ∷ s ∷ e ∷ x ∷ ws) ≡ ranges-within l (off + 4) s (record { stop = x; end = e } ∷ outer) ws
+  unfolding ranges-within
   ranges-step off lo outer i s e x ws t a b =
       rw (to-still off outer t, to-earliest off lo outer t, le-leb lo s a, le-leb e (bound l outer) b)
 
   abbrev Ranges-run : (off lo : ℕ) (outer : List Around) (ts : Trees) → Type 0
-  Ranges-run off lo outer ts = (more : List ℕ) → ranges l off lo outer (spelled p off ts ++ more) ≡ ranges l (off + 4 * nodes ts) (fin lo ts) outer more
+  Ranges-run off lo outer ts = (more : List ℕ) → ranges-within l off lo outer (spelled p off ts ++ more) ≡ ranges-within l (off + 4 * nodes ts) (fin lo ts) outer more
 
   to-less : (m k : ℕ) (outer : List Around) → k ≤ m → To m outer → To k outer
   to-less m k [] h t = tt
@@ -73,7 +74,7 @@ module _ (T p l : ℕ) where
       let vs = spelled p x rest in
       let q : off + 4 * suc (nodes kids + nodes rest) ≡ x + 4 * nodes rest = omega arith in
       ranges-step off lo outer i (s - p) e x ((us ++ vs) ++ more) (to-less _ (suc off) outer (omega arith) t) (omega arith) (omega arith)
-      ∙ (ap (ranges l (off + 4) (s - p) (record { stop = x; end = e } ∷ outer)) (append-assoc us vs more)
+      ∙ (ap (ranges-within l (off + 4) (s - p) (record { stop = x; end = e } ∷ outer)) (append-assoc us vs more)
       ∙ (f (vs ++ more) ∙ (pop-ranges x (fin (s - p) kids) (record { stop = x; end = e }) outer (vs ++ more) (omega arith) ∙ (g more ∙ rw q))))
 
   run-nil : (off lo : ℕ) (outer : List Around) → Ranges-run off lo outer nil
@@ -106,15 +107,14 @@ module _ (T p l : ℕ) where
       ranges-run-tree off lo i s k kids rest outer t′ (w .starts) high kids-run rest-run
   part-run (part s k ws rest) off lo outer en t w = absurd en
 
-spelled-ranges : (T p l : ℕ) (ts : Trees) → Entries ts → Plain T p (p + l) ts → ranges l 0 0 [] (spelled p 0 ts) ≡ true
-unfolding ranges bound
+spelled-ranges : (T p l : ℕ) (ts : Trees) → Entries ts → Plain T p (p + l) ts → ranges-within l 0 0 [] (spelled p 0 ts) ≡ true
+unfolding ranges-within bound
 spelled-ranges T p l ts en w =
     let ws = spelled p 0 ts in
-    ap (ranges l 0 0 []) (sym (append-nil ws)) ∙ part-run T p l ts 0 0 [] en tt (rw add-zero w) []
+    ap (ranges-within l 0 0 []) (sym (append-nil ws)) ∙ part-run T p l ts 0 0 [] en tt (rw add-zero w) []
 
 -- the words of trees that nest and are in order
 pub parts-kept : (T p l : ℕ) (ws : List ℕ) → T ≤ 65536 → Parts T p l ws → part-kept T l ws ≡ true
-unfolding part-kept
 parts-kept T p l ws t h =
-    let r : ranges l 0 0 [] ws ≡ true = ap (ranges l 0 0 []) (sym (h .whole)) ∙ spelled-ranges T p l (unpack p 0 ws) (entries-unpack p 0 ws) (h .ranges) in
-    rw (parts-accepted T p l ws t h, r)
+    let r : ranges-within l 0 0 [] ws ≡ true = ap (ranges-within l 0 0 []) (sym (h .whole)) ∙ spelled-ranges T p l (unpack p 0 ws) (entries-unpack p 0 ws) (h .ranges) in
+    rw (kept-as-before T l ws, parts-accepted T p l ws t h, r)

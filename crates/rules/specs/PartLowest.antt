@@ -6,7 +6,7 @@ use Prim.Native.Nat.{ℕ, _+_}
 use lib.Dec.{leb}
 use Rattle.words.specs.Words.{record-width}
 use Rattle.words.specs.Outcome.{Outcome, accepted, refused}
-use Rattle.part.specs.Part.{part-check}
+use Rattle.part.specs.Part.{greatest-end, part-check}
 
 -- A record around the ones that follow: its end index and its end.
 pub record Around : Type 0 where
@@ -24,27 +24,28 @@ unfoldable pub earliest : (off lo : ℕ) → List Around → ℕ
 earliest off lo [] = lo
 earliest off lo (a ∷ outer) = elim (leb (a .stop) off) [ true ↦ earliest off (a .end) outer | false ↦ lo ]
 
--- the parent's end; the part's length l where there is no parent
-unfoldable pub bound : (l : ℕ) → List Around → ℕ
-bound l [] = l
-bound l (a ∷ outer) = a .end
+-- does a record end at its parent's end or before it? Where there is no parent nothing is asked here
+unfoldable pub ends-inside : (e : ℕ) → List Around → Bool
+ends-inside e [] = true
+ends-inside e (a ∷ outer) = leb e (a .end)
 
 -- The ranges of the records from the offset off on: each starts at the earliest start or later and ends within its parent.
-unfoldable pub ranges : (l off lo : ℕ) → List Around → List ℕ → Bool
-ranges l off lo outer [] = true
-ranges l off lo outer (i ∷ []) = true
-ranges l off lo outer (i ∷ s ∷ []) = true
-ranges l off lo outer (i ∷ s ∷ e ∷ []) = true
-ranges l off lo outer (i ∷ s ∷ e ∷ x ∷ ws) =
+unfoldable pub ranges : (off lo : ℕ) → List Around → List ℕ → Bool
+ranges off lo outer [] = true
+ranges off lo outer (i ∷ []) = true
+ranges off lo outer (i ∷ s ∷ []) = true
+ranges off lo outer (i ∷ s ∷ e ∷ []) = true
+ranges off lo outer (i ∷ s ∷ e ∷ x ∷ ws) =
     leb (earliest off lo outer) s
-    && (leb e (bound l (still off outer))
-    && ranges l (off + record-width) s (record { stop = x; end = e } ∷ still off outer) ws)
+    && (ends-inside e (still off outer)
+    && ranges (off + record-width) s (record { stop = x; end = e } ∷ still off outer) ws)
 
 -- does nothing refuse it?
 abbrev pub is-accepted : Outcome → Bool
 is-accepted (accepted counts) = true
 is-accepted (refused number place) = false
 
--- The rules for a part of the length l. Refusal 1 is tested before any cell is read, so that here `part-check` is 16 to 20.
+-- The rules for a part of the length l: 16 to 20, the greatest end of any record within the length, and the ranges. Refusal 1 is tested
+-- before any cell is read, so that here `part-check` is 16 to 20.
 unfoldable pub part-kept : (T l : ℕ) → List ℕ → Bool
-part-kept T l ws = is-accepted (part-check ws T) && ranges l 0 0 [] ws
+part-kept T l ws = is-accepted (part-check ws T) && (leb (greatest-end ws) l && ranges 0 0 [] ws)

@@ -6,7 +6,7 @@ use Prim.Native.Nat.{ℕ, _*_, _≤_, _<_}
 use lib.ListN.{length}
 use Rattle.words.specs.Outcome.{accepted}
 use Rattle.words.specs.Words.{start-of, end-of, record-width}
-use Rattle.part.specs.Part.{end-index, part-check}
+use Rattle.part.specs.Part.{end-index, greatest-end, part-check}
 
 module _ (w : List ℕ) where
   -- the record i lies inside the record j, whose descendants go up to its end index
@@ -32,5 +32,5 @@ module _ (w : List ℕ) where
     pub children : (i j : ℕ) → i * record-width < length w → Parent j i → (start-of w j ≤ start-of w i) × (end-of w i ≤ end-of w j)
     -- 10: "a record starts before its preceding sibling's end"
     pub siblings : (i j : ℕ) → i * record-width < length w → Preceding j i → end-of w j ≤ start-of w i
-    -- "end within the part's length"
-    pub ends : (i : ℕ) → i * record-width < length w → end-of w i ≤ l
+    -- "end within the part's length": the greatest end of any record is compared with it
+    pub ends : greatest-end w ≤ l

@@ -39,12 +39,26 @@ fn show_check(words: &[u16]) {
     print(b" words");
     let answer = part::part_check(words, TYPES);
     match answer {
-        Checked::Records(count) => {
+        Checked::Records(count, end, nesting) => {
             print_number(b": ", count as u64);
-            print(b" records\n");
+            print_number(b" records, greatest end ", words::wide64(end));
+            print_number(b", nesting ", nesting as u64);
+            print(b"\n");
         }
         Checked::Refused(number, place) => print_refusal(number, place),
     }
+}
+
+// A part in which the greatest end is that of a record inside another, and a part without records.
+fn show_greatest_end() {
+    let inside: [u16; 8] = [1, 0, 2, 8, 1, 0, 9, 8];
+    print(
+        b"\nWhich end is the greatest? It may be any record's: here one ends behind the record that holds it.\n",
+    );
+    print_records(&inside);
+    show_check(&inside);
+    print(b"Without records there is no end and no nesting: both are 0.\n");
+    show_check(&inside[..0]);
 }
 
 // A slice, with its starts and ends counted from `base`, and then the words that it leaves in `out`.
@@ -93,6 +107,7 @@ fn main() {
     );
     show_check(&words);
     show_check(&words[..12]);
+    show_greatest_end();
     print(
         b"\nThe names alone, counted from the start of the first; no record may start before the base.\n",
     );

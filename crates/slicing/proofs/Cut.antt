@@ -1,65 +1,25 @@
--- A cut of an accepted part: its records are records of the part, and what its check says of them.
+-- A cut of an accepted part: its records are records of the part, and the check of the cut is that of the part written.
 -- Assumes nothing.
-use mathlib.Core.Path.{_≡_, refl, sym, ap, _∙_}
-use mathlib.Core.List.{List, [], _∷_}
-use mathlib.Core.Bool.{Bool, cond}
-use mathlib.Core.Option.{Option, none, some}
+use mathlib.Core.Path.{_≡_, sym, ap, _∙_}
+use mathlib.Core.List.{List}
+use mathlib.Core.Option.{none}
 use Prim.Native.Nat.{ℕ, _+_, _-_, _*_, _/_, _%_, _≤_, _<_}
 use native.Mathlib.Omega.{arith}
 use native.Mathlib.Decide.{decLe}
-use borrow.Author.Tests.{ltb-false}
+use borrow.Author.Tests.{ltb-false, le-ltb, eq-eqb}
 use lib.ListN.{length, getD}
 use lib.Dec.{ltb}
-use Rattle.words.specs.Outcome.{accepted, refused}
-use Rattle.words.specs.Words.{start-of, run}
-use Rattle.words.specs.First.{first-from}
-use Rattle.words.proofs.Firsts.{from-step, none-from}
-use Rattle.words.proofs.Outcomes.{never}
+use Rattle.words.specs.Outcome.{accepted, unless-refused}
+use Rattle.words.specs.Words.{start-of, end-of, run}
+use Rattle.words.proofs.Firsts.{none-from}
 use Rattle.words.proofs.Runs.{run-length, run-word}
-use Rattle.part.specs.Part.{part-check}
-use Rattle.part.proofs.Faults.{Sound, part-sound, part-whole}
-use Rattle.slicing.specs.Slice.{starts-below, outside, cut-check}
+use Rattle.part.specs.Part.{part-counts, faults-from, part-check}
+use Rattle.part.specs.Rebased.{rebased}
+use Rattle.part.proofs.Alike.{Alike, fault-alike, same-faults}
+use Rattle.part.proofs.Faults.{Sound, part-sound, part-whole, passes}
+use Rattle.part.proofs.Rebased.{rebased-at, rebased-length}
+use Rattle.slicing.specs.Slice.{starts-below, sliced}
 use Rattle.slicing.specs.Rebasing.{Rebasable}
-
--- the first record for which a test holds, one record further back, and once all are passed
-module _ (test : ℕ → Bool) (i n : ℕ) where
-  pub first-back : (j : ℕ) (held : Bool) (found behind : Option ℕ) → j ≡ i + 1 → i < n → held ≡ test i → behind ≡ first-from test j (n - j) → found ≡ cond held (some i) behind → found ≡ first-from test i (n - i)
-  first-back j held found behind is l h b f = f ∙ rw (h, b, is) (sym (from-step test i n l))
-
-  pub first-all : i ≤ 0 → first-from test i (n - i) ≡ first-from test 0 n
-  first-all l = let e : i ≡ 0 = omega arith in let z : n - 0 ≡ n = omega arith in rw (e, z)
-
--- the outcome of the cut's check by what its two searches find
-module _ (cut : List ℕ) (from to base : ℕ) where
-  pub cut-low : (i : ℕ) → starts-below cut base ≡ some i → cut-check cut from to base ≡ refused 23 (from + i * 4)
-  unfolding cut-check
-  cut-low i h = rw h
-
-  pub cut-far : (i : ℕ) → starts-below cut base ≡ none → outside cut to ≡ some i → cut-check cut from to base ≡ refused 19 (from + i * 4)
-  unfolding cut-check
-  cut-far i g h = rw (g, h)
-
-  pub cut-clear : starts-below cut base ≡ none → outside cut to ≡ none → cut-check cut from to base ≡ accepted (length cut / 4 ∷ [])
-  unfolding cut-check
-  cut-clear g h = rw (g, h)
-
-  -- an accepted cut has no record that starts below the base
-  pub cut-not-low : (counts : List ℕ) → cut-check cut from to base ≡ accepted counts → starts-below cut base ≡ none
-  unfolding cut-check
-  cut-not-low counts h = go (starts-below cut base) refl
-    where
-      go : (o : Option ℕ) → starts-below cut base ≡ o → starts-below cut base ≡ none
-      go none e = e
-      go (some i) e = absurd (never 23 (from + i * 4) counts (rw e at h))
-
-  -- nor one that ends past the cut
-  pub cut-not-far : (counts : List ℕ) → cut-check cut from to base ≡ accepted counts → outside cut to ≡ none
-  unfolding cut-check
-  cut-not-far counts h = go (outside cut to) refl
-    where
-      go : (o : Option ℕ) → outside cut to ≡ o → outside cut to ≡ none
-      go none e = e
-      go (some i) e = absurd (never 19 (from + i * 4) counts (rw (cut-not-low counts h, e) at h))
 
 module _ (w : List ℕ) (types from to : ℕ) (counts : List ℕ) (ok : part-check w types ≡ accepted counts) (a : from ≤ to) (b : to ≤ length w) (m : from % 4 ≡ 0) where
   -- word k of record i of the cut is that of record from / 4 + i of the part
@@ -78,6 +38,36 @@ module _ (w : List ℕ) (types from to : ℕ) (counts : List ℕ) (ok : part-che
     after = λ i l. rw (cut-word i 3 (omega arith) l) (omega (arith, cut-sound i l .after));
     fits = rw (run-length w from to a b) fits;
   }
+
+  -- whatever the base, the rebased cut has the faults of the cut whose end indices alone are counted from its start
+  module _ (base : ℕ) (y : to % 4 ≡ 0) where
+    abbrev cut : List ℕ
+    cut = run w from to
+
+    alike-at : (i : ℕ) → i < length cut / 4 → Alike (rebased from base cut) (rebased from 0 cut) i
+    alike-at i l =
+        let p = rebased-at from base cut i (omega arith) in
+        let q = rebased-at from 0 cut i (omega arith) in
+        let s = cut-sound i l .ordered in
+        let ordered : start-of cut i ≤ end-of cut i = rw (cut-word i 1 (omega arith) l, cut-word i 2 (omega arith) l) s in
+        record {
+          id = p .id ∙ sym (q .id);
+          index = p .index ∙ sym (q .index);
+          ordered = omega (arith, p .start, p .end);
+          ordered-too = omega (arith, q .start, q .end);
+        }
+
+    pub cut-check : part-check (sliced w from to base) types ≡ unless-refused (faults-from (rebased from 0 cut) types 0 (length cut / 4)) (accepted (part-counts (sliced w from to base)))
+    unfolding part-check sliced
+    cut-check =
+        let n : length (rebased from base cut) ≡ length cut / 4 * 4 = rebased-length from base cut in
+        let same : length (rebased from base cut) ≡ length (rebased from 0 cut) = n ∙ sym (rebased-length from 0 cut) in
+        let e : length (rebased from base cut) / 4 ≡ length cut / 4 = omega (arith, n) in
+        let whole : length (rebased from base cut) % 4 ≡ 0 = omega (arith, n) in
+        rw (le-ltb 65536 types (passes w types counts ok .few-types), eq-eqb (length (rebased from base cut) % 4) 0 whole)
+        (ap (faults-from (rebased from base cut) types 0) e
+        ∙ same-faults (rebased from base cut) (rebased from 0 cut) types 0 (length cut / 4)
+        (λ j a b. fault-alike (rebased from base cut) (rebased from 0 cut) types j same (λ k c. alike-at k (omega arith))))
 
 -- a part that passes is shorter than 65,536 words
 pub part-small : (w : List ℕ) (types : ℕ) (counts : List ℕ) → part-check w types ≡ accepted counts → ((k : ℕ) → getD w k 0 < 65536) → length w < 65536

@@ -1,11 +1,10 @@
--- Where none of 1, 16 to 23 applies, slicing answers 19 on the cut exactly where the part check of the rebased cut does, at the
--- place in the source; and that part check answers nothing else, or accepts.
+-- Where none of 1, 16 to 23 applies, slicing answers 19 exactly at the first record of the cut whose end index is past the second bound, at
+-- its place in the source; and the part check of the rebased cut answers nothing else, or accepts.
 -- By comparing each record of the rebased cut with the part's.
 -- Assumes nothing.
 use mathlib.Core.Path.{_≡_, refl, sym, ap, _∙_}
 use mathlib.Core.List.{List, [], _∷_}
 use mathlib.Core.Bool.{Bool, true, false, cond}
-use mathlib.Core.Logic.{_↔_}
 use mathlib.Core.Option.{Option, none, some}
 use Prim.Native.Nat.{ℕ, zero, suc, _+_, _-_, _*_, _/_, _%_, _≤_, _<_}
 use native.Mathlib.Decide.{decLt}
@@ -13,27 +12,24 @@ use native.Mathlib.Omega.{arith}
 use borrow.Author.Tests.{lt-leb, le-ltb, lt-ltb, eq-eqb}
 use lib.ListN.{length, getD}
 use lib.Dec.{ltb}
-use Rattle.words.specs.Outcome.{Outcome, accepted, refused, unless-refused, unless-found, Result, settled}
-use Rattle.words.specs.Words.{id-of, start-of, end-of, run}
+use Rattle.words.specs.Outcome.{Outcome, accepted, refused, unless-refused, unless-found, settled}
+use Rattle.words.specs.Words.{id-of, start-of, end-of, run, front}
 use Rattle.words.specs.First.{first-from}
 use Rattle.words.proofs.Outcomes.{never}
 use Rattle.words.proofs.Runs.{run-length}
-use Rattle.part.specs.Part.{part-check, end-index, own-fault, fault, faults-from}
+use Rattle.part.specs.Part.{part-check, end-index, own-fault, fault, faults-from, greatest-end, part-counts}
+use Rattle.part.specs.Rebased.{rebased}
 use Rattle.part.proofs.Faults.{Sound, Passes, passes, sound-own, crosses-none, fault-own, fault-none}
-use Rattle.slicing.specs.Slice.{starts-below, outside, cut-check, rebased, largest-end, sliced, slice-outcome, slice-part}
-use Rattle.slicing.specs.Cutting.{Cuttable, in-source}
+use Rattle.slicing.specs.Slice.{starts-below, sliced, in-source, slice-outcome, slice-part}
+use Rattle.slicing.specs.Cutting.{Cuttable, outside}
 use Rattle.slicing.proofs.Cut.{cut-word}
-use Rattle.slicing.proofs.Rebasing.{At, rebased-at, rebased-length}
+use Rattle.part.proofs.Rebased.{At, rebased-at, rebased-length}
 
 -- a test that fails at each record is met nowhere
 none-met : (test : ℕ → Bool) (i left : ℕ) → ((j : ℕ) → i ≤ j → j < i + left → test j ≡ false) → first-from test i left ≡ none
 unfolding first-from
 none-met test i zero h = refl
 none-met test i (suc left) h = rw (h i (omega arith) (omega arith)) (none-met test (i + 1) left (λ j l m. h j (omega arith) (omega arith)))
-
-settled-outcome : (o : Outcome) (written before : List (List ℕ)) → (settled o written before) .outcome ≡ o
-settled-outcome (accepted counts) written before = refl
-settled-outcome (refused number place) written before = refl
 
 -- a cut of an accepted part between whole bounds
 module _ (w : List ℕ) (types from to base : ℕ) (counts : List ℕ) (ok : part-check w types ≡ accepted counts) (a : from ≤ to) (b : to ≤ length w) (x : from % 4 ≡ 0) (y : to % 4 ≡ 0) where
@@ -118,18 +114,18 @@ module _ (w : List ℕ) (types from to base : ℕ) (counts : List ℕ) (ok : par
 
   -- the part check of the rebased cut, from record i on
   met : (i left : ℕ) → i + left ≡ n
-      → faults-from again types i left ≡ unless-found 19 (λ k. k * 4) (first-from (λ k. ltb to (end-index cut k)) i left) (accepted (length again / 4 ∷ []))
+      → faults-from again types i left ≡ unless-found 19 (λ k. k * 4) (first-from (λ k. ltb to (end-index cut k)) i left) (accepted (part-counts again))
   unfolding faults-from first-from
   met i zero e = refl
   met i (suc left) e = go (decLt to (end-index cut i)) (met (i + 1) left (omega arith))
     where
       go : Dec (to < end-index cut i)
-          → faults-from again types (i + 1) left ≡ unless-found 19 (λ k. k * 4) (first-from (λ k. ltb to (end-index cut k)) (i + 1) left) (accepted (length again / 4 ∷ []))
-          → faults-from again types i (suc left) ≡ unless-found 19 (λ k. k * 4) (first-from (λ k. ltb to (end-index cut k)) i (suc left)) (accepted (length again / 4 ∷ []))
+          → faults-from again types (i + 1) left ≡ unless-found 19 (λ k. k * 4) (first-from (λ k. ltb to (end-index cut k)) (i + 1) left) (accepted (part-counts again))
+          → faults-from again types i (suc left) ≡ unless-found 19 (λ k. k * 4) (first-from (λ k. ltb to (end-index cut k)) i (suc left)) (accepted (part-counts again))
       go (yes h) rest = rw (lt-ltb to (end-index cut i) h, far-fault i (omega arith) h)
       go (no h) rest = rw (le-ltb to (end-index cut i) (omega arith), no-fault i (omega arith) (omega arith)) rest
 
-  pub rebased-check : part-check again types ≡ unless-found 19 (λ i. i * 4) (outside cut to) (accepted (n ∷ []))
+  pub rebased-check : part-check again types ≡ unless-found 19 (λ i. i * 4) (outside cut to) (accepted (part-counts again))
   unfolding part-check
   rebased-check =
       let e : length again / 4 ≡ n = omega (arith, long) in
@@ -146,68 +142,39 @@ module _ (w : List ℕ) (types from to base : ℕ) (c : Cuttable w types from to
           rw (cut-word w types from to _ (c .part) (c .in-order) (c .inside) (c .whole-from) i 1 (omega arith) l)
           (c .starts (from / 4 + i) (omega (arith, c .whole-from)) (omega (arith, c .whole-from, run-length w from to (c .in-order) (c .inside))))
 
-  -- the cut's check is the part check of the rebased cut
-  pub cut-as-part : cut-check (run w from to) from to base ≡ in-source from (part-check (sliced w from to base) types)
-  unfolding cut-check sliced
-  cut-as-part =
-      rw (none-below, rebased-check w types from to base _ (c .part) (c .in-order) (c .inside) (c .whole-from) (c .whole-to))
-      (go (outside (run w from to) to))
-    where
-      go : (o : Option ℕ)
-          → unless-found 19 (λ i. from + i * 4) o (accepted (length (run w from to) / 4 ∷ []))
-          ≡ in-source from (unless-found 19 (λ i. i * 4) o (accepted (length (run w from to) / 4 ∷ [])))
-      go none = refl
-      go (some i) = refl
-
   -- the part check of the rebased cut answers nothing but 19, or accepts
   pub only-nineteen : (number place : ℕ) → part-check (sliced w from to base) types ≡ refused number place → number ≡ 19
   unfolding sliced
   only-nineteen number place h =
       go (outside (run w from to) to) (sym (rebased-check w types from to base _ (c .part) (c .in-order) (c .inside) (c .whole-from) (c .whole-to)) ∙ h)
     where
-      go : (o : Option ℕ) → unless-found 19 (λ i. i * 4) o (accepted (length (run w from to) / 4 ∷ [])) ≡ refused number place → number ≡ 19
+      go : (o : Option ℕ) → unless-found 19 (λ i. i * 4) o (accepted (part-counts (rebased from base (run w from to)))) ≡ refused number place → number ≡ 19
       go none h = absurd (never number place _ (sym h))
       go (some i) h = cc
 
-  -- slicing, by the part check of the rebased cut; then 13
-  pub slice-as-part : (room : ℕ)
-      → slice-outcome w types from to base room
-      ≡ unless-refused (in-source from (part-check (sliced w from to base) types))
-      (cond (ltb room (to - from)) (refused 13 0) (accepted ((to - from) ∷ largest-end (sliced w from to base) ∷ [])))
-  unfolding slice-outcome
-  slice-as-part room =
-      rw (c .part, le-ltb _ _ (c .in-order), le-ltb _ _ (c .inside), eq-eqb _ _ (c .whole-from), eq-eqb _ _ (c .whole-to), cut-as-part)
+  -- the outcome by the second bound: 19 at the first record that ends past it, then 13
+  abbrev by-bound : (room : ℕ) → Outcome
+  by-bound room =
+      unless-found 19 (λ i. from + i * 4) (outside (run w from to) to)
+      (cond (ltb room (to - from)) (refused 13 0) (accepted ((to - from) ∷ greatest-end (sliced w from to base) ∷ [])))
 
-  -- 19 on the cut
-  pub nineteen-exactly : (room at : ℕ)
-      → (slice-outcome w types from to base room ≡ refused 19 (from + at)) ↔ (part-check (sliced w from to base) types ≡ refused 19 at)
-  nineteen-exactly room at = (λ h. there (part-check (sliced w from to base) types) refl (sym (slice-as-part room) ∙ h), back)
+  pub nineteen-exactly : (room : ℕ) → slice-outcome w types from to base room ≡ by-bound room
+  unfolding slice-outcome sliced
+  nineteen-exactly room =
+      rw (c .part, le-ltb _ _ (c .in-order), le-ltb _ _ (c .inside), eq-eqb _ _ (c .whole-from), eq-eqb _ _ (c .whole-to), none-below,
+      rebased-check w types from to base _ (c .part) (c .in-order) (c .inside) (c .whole-from) (c .whole-to))
+      (go (outside (run w from to) to))
     where
       later : Outcome
-      later = cond (ltb room (to - from)) (refused 13 0) (accepted ((to - from) ∷ largest-end (sliced w from to base) ∷ []))
+      later = cond (ltb room (to - from)) (refused 13 0) (accepted ((to - from) ∷ greatest-end (rebased from base (run w from to)) ∷ []))
 
-      not-later : (t : Bool) (counts : List ℕ) → cond t (refused 13 0) (accepted counts) ≡ refused 19 (from + at) → ⊥
-      not-later true counts h = let z : _≡_ {A = ℕ} 13 19 = cc in omega arith
-      not-later false counts h = never _ _ counts (sym h)
+      go : (o : Option ℕ)
+          → unless-refused (in-source from (unless-found 19 (λ i. i * 4) o (accepted (part-counts (rebased from base (run w from to)))))) later
+          ≡ unless-found 19 (λ i. from + i * 4) o later
+      go none = refl
+      go (some i) = refl
 
-      there : (o : Outcome) → part-check (sliced w from to base) types ≡ o → unless-refused (in-source from o) later ≡ refused 19 (from + at)
-          → part-check (sliced w from to base) types ≡ refused 19 at
-      there (accepted counts) e h = absurd (not-later (ltb room (to - from)) _ h)
-      there (refused number place) e h =
-          let p : number ≡ 19 = cc in
-          let q : from + place ≡ from + at = cc in
-          let r : place ≡ at = omega arith in
-          e ∙ rw (p, r)
-
-      back : part-check (sliced w from to base) types ≡ refused 19 at → slice-outcome w types from to base room ≡ refused 19 (from + at)
-      back h = slice-as-part room ∙ rw h
-
-  -- the same of the whole call, whose output is then unchanged
-  pub call-nineteen-exactly : (at : ℕ) (out : List ℕ)
-      → (slice-part w types from to base out ≡ record { outcome = refused 19 (from + at); outputs = out ∷ [] })
-      ↔ (part-check (sliced w from to base) types ≡ refused 19 at)
+  -- the same of the whole call, whose output is unchanged where it refuses
+  pub call-nineteen-exactly : (out : List ℕ) → slice-part w types from to base out ≡ settled (by-bound (length out)) (front (sliced w from to base) out ∷ []) (out ∷ [])
   unfolding slice-part
-  call-nineteen-exactly at out = (
-    λ h. nineteen-exactly (length out) at .0 (sym (settled-outcome (slice-outcome w types from to base (length out)) _ _) ∙ ap (λ (r : Result). r .outcome) h),
-    λ h. rw (nineteen-exactly (length out) at .1 h),
-  )
+  call-nineteen-exactly out = rw (nineteen-exactly (length out))

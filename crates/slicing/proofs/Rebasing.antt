@@ -1,72 +1,13 @@
--- Rebasing record by record: what one record adds to the words and to the largest end, how many words there are, and the words of
--- record i.
--- Assumes nothing.
-use mathlib.Core.Path.{_≡_, refl}
-use mathlib.Core.List.{List, [], _∷_, _++_}
-use Prim.Native.Nat.{ℕ, zero, suc, _+_, _-_, _*_, _/_, max, _≤_, _<_}
+-- Rebasing record by record into the front of an output. Assumes nothing.
+use mathlib.Core.Path.{_≡_}
+use mathlib.Core.List.{List}
+use Prim.Native.Nat.{ℕ, _+_, _*_, _/_, _≤_}
 use native.Mathlib.Omega.{arith}
 use lib.ListN.{length, drop, length-drop}
-use Rattle.words.specs.Words.{id-of, start-of, end-of, put, front}
-use Rattle.words.proofs.Runs.{four-at, Fronted, fronted-none, fronted-length, fronted-next, fronted-all}
-use Rattle.part.specs.Part.{end-index}
-use Rattle.slicing.specs.Slice.{rebased, largest-end}
-
--- record i rebased
-abbrev pub record-at : (from base : ℕ) → List ℕ → ℕ → List ℕ
-record-at from base cut i = id-of cut i ∷ (start-of cut i - base) ∷ (end-of cut i - base) ∷ (end-index cut i - from) ∷ []
-
-module _ (from base : ℕ) (cut : List ℕ) (i : ℕ) where
-  pub rebased-step : i * 4 + 4 ≤ length cut → rebased from base (drop (i * 4) cut) ≡ record-at from base cut i ++ rebased from base (drop ((i + 1) * 4) cut)
-  unfolding rebased
-  rebased-step l = rw (four-at cut i l)
-
-  pub largest-step : i * 4 + 4 ≤ length cut → largest-end (rebased from base (drop (i * 4) cut)) ≡ max (end-of cut i - base) (largest-end (rebased from base (drop ((i + 1) * 4) cut)))
-  unfolding rebased largest-end
-  largest-step l = rw (four-at cut i l)
-
--- no whole record is left
-pub rebased-end : (from base : ℕ) (rest : List ℕ) → length rest < 4 → rebased from base rest ≡ []
-unfolding rebased
-rebased-end from base [] l = refl
-rebased-end from base (a ∷ []) l = refl
-rebased-end from base (a ∷ b ∷ []) l = refl
-rebased-end from base (a ∷ b ∷ c ∷ []) l = refl
-rebased-end from base (a ∷ b ∷ c ∷ d ∷ rest) l = absurd (omega arith)
-
-pub largest-none : largest-end [] ≡ 0
-unfolding largest-end
-largest-none = refl
-
--- a rebased cut has as many words as its whole records
-pub rebased-length : (from base : ℕ) (cut : List ℕ) → length (rebased from base cut) ≡ length cut / 4 * 4
-unfolding rebased
-rebased-length from base [] = refl
-rebased-length from base (a ∷ []) = refl
-rebased-length from base (a ∷ b ∷ []) = refl
-rebased-length from base (a ∷ b ∷ c ∷ []) = refl
-rebased-length from base (a ∷ b ∷ c ∷ d ∷ rest) = let e = rebased-length from base rest in omega arith
-
--- record i of a rebased cut
-pub record At (from base : ℕ) (cut : List ℕ) (i : ℕ) : Type 0 where
-  pub id : id-of (rebased from base cut) i ≡ id-of cut i
-  pub start : start-of (rebased from base cut) i ≡ start-of cut i - base
-  pub end : end-of (rebased from base cut) i ≡ end-of cut i - base
-  pub index : end-index (rebased from base cut) i ≡ end-index cut i - from
-
-pub rebased-at : (from base : ℕ) (cut : List ℕ) (i : ℕ) → i * 4 + 4 ≤ length cut → At from base cut i
-unfolding rebased
-rebased-at from base [] i l = absurd (omega arith)
-rebased-at from base (a ∷ []) i l = absurd (omega arith)
-rebased-at from base (a ∷ b ∷ []) i l = absurd (omega arith)
-rebased-at from base (a ∷ b ∷ c ∷ []) i l = absurd (omega arith)
-rebased-at from base (a ∷ b ∷ c ∷ d ∷ rest) zero l = record { id = refl; start = refl; end = refl; index = refl }
-rebased-at from base (a ∷ b ∷ c ∷ d ∷ rest) (suc i) l =
-    let r = rebased-at from base rest i (omega arith) in
-    let p : suc i * 4 ≡ suc (suc (suc (suc (i * 4)))) = omega arith in
-    let q : suc i * 4 + 1 ≡ suc (suc (suc (suc (i * 4 + 1)))) = omega arith in
-    let s : suc i * 4 + 2 ≡ suc (suc (suc (suc (i * 4 + 2)))) = omega arith in
-    let t : suc i * 4 + 3 ≡ suc (suc (suc (suc (i * 4 + 3)))) = omega arith in
-    record { id = rw p (r .id); start = rw q (r .start); end = rw s (r .end); index = rw t (r .index) }
+use Rattle.words.specs.Words.{put, front}
+use Rattle.words.proofs.Runs.{Fronted, fronted-none, fronted-length, fronted-next, fronted-all}
+use Rattle.part.specs.Rebased.{rebased}
+use Rattle.part.proofs.Rebased.{record-at, rebased-step, rebased-end}
 
 -- the first i records stand rebased at the front of the output
 abbrev pub Done : (from base : ℕ) (cut out₀ out : List ℕ) (i : ℕ) → Type 0

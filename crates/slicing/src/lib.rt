@@ -1,14 +1,12 @@
 // A slice of a packed part, as TreeBuffer::slice of the source makes it.
 ghost use mathlib.Core.Path.{_≡_};
-ghost use mathlib.Core.Bool.{cond};
 ghost use mathlib.Core.List.{[], _∷_};
-ghost use mathlib.Core.Option.{some};
-ghost use Prim.Native.Nat.{_+_};
 ghost use lib.ListN.{length};
 ghost use Rattle.words.specs.Answer.{place-found};
-ghost use Rattle.part.specs.Answer.{checked-outcome};
-ghost use Rattle.slicing.specs.Slice.{cut-check, slice-part};
-ghost use Rattle.slicing.specs.Rebasing.{Rebasable, Rebased};
+ghost use Rattle.words.specs.Words.{front};
+ghost use Rattle.part.specs.Rebased.{rebased};
+ghost use Rattle.slicing.specs.Slice.{starts-below, slice-part};
+ghost use Rattle.slicing.specs.Rebasing.{Rebasable, greatest-of};
 ghost use Rattle.slicing.specs.Answer.{sliced-outcome};
 use part::Checked;
 use words::Found;
@@ -22,64 +20,53 @@ pub enum Sliced {
     Refused(u32, usize),
 }
 
-// Record i where the test held for it, else what was found behind it.
-fn found_first(held: bool, i: usize, behind: Found) -> Found
-    ensures { λ r. ⌜ place-found r ≡ cond held (some i) (place-found behind) ⌝ }
-{
-    if held {
-        return Found::At(i);
-    }
-    behind
-}
-
-// 23, then 19 on a cut of the words from `from` up to `to`. From the last record back, so that the lowest one is noted
-// last.
-fn check_cut(cut: &[u16], from: usize, to: usize, base: u32) -> Checked
-    requires { ⌜ from + length (now cut) ≡ to ⌝ }
-    ensures { λ r. ⌜ checked-outcome r ≡ cut-check (now (cut .entry)) from to base ⌝ }
+// 23: the first record of the cut that starts below the base.
+fn starts_below(cut: &[u16], base: u32) -> Found
+    ensures { λ r. ⌜ place-found r ≡ starts-below (now (cut .entry)) base ⌝ }
 {
     let records = cut.len() / RECORD_WIDTH;
-    let mut low = Found::Nothing;
-    let mut far = Found::Nothing;
-    let mut i = records;
-    while 0 < i {
-        i -= 1;
-        low = found_first((cut[i * RECORD_WIDTH + 1] as u32) < base, i, low);
-        far = found_first(to < words::wide(cut[i * RECORD_WIDTH + 3]), i, far);
-    }
-    if let Found::At(at) = low {
-        return Checked::Refused(23, from + at * RECORD_WIDTH);
-    }
-    if let Found::At(at) = far {
-        return Checked::Refused(19, from + at * RECORD_WIDTH);
-    }
-    Checked::Records(records)
-}
-
-// Rebases a cut's records into the front of `out`, and answers the largest end left.
-fn rebase(cut: &[u16], from: u16, base: u16, out: &mut [u16]) -> u16
-    requires { ⌜ Rebasable (now cut) from base (length (now out)) ⌝ }
-    ensures { λ r. ⌜ Rebased (now (cut .entry)) from base (now (out .entry)) (now (out .exit)) r ⌝ }
-{
-    let records = cut.len() / RECORD_WIDTH;
-    let mut largest: u16 = 0;
     let mut i: usize = 0;
     while i < records {
-        let end = cut[i * RECORD_WIDTH + 2] - base;
-        words::put_record(
-            out,
-            i * 4,
-            cut[i * RECORD_WIDTH],
-            cut[i * RECORD_WIDTH + 1] - base,
-            end,
-            cut[i * RECORD_WIDTH + 3] - from,
-        );
-        if largest < end {
-            largest = end;
+        if words::word(cut[i * RECORD_WIDTH + 1]) < base {
+            return Found::At(i);
         }
         i += 1;
     }
-    largest
+    Found::Nothing
+}
+
+// Rebases a cut's records into the front of `out`.
+fn rebase(cut: &[u16], from: u16, base: u16, out: &mut [u16])
+    requires { ⌜ Rebasable (now cut) from base (length (now out)) ⌝ }
+    ensures { λ _. ⌜ now (out .exit) ≡ front (rebased from base (now (cut .entry))) (now (out .entry)) ⌝ }
+{
+    let records = cut.len() / RECORD_WIDTH;
+    let mut i: usize = 0;
+    while i < records {
+        words::put_record(
+            out,
+            i * RECORD_WIDTH,
+            cut[i * RECORD_WIDTH],
+            cut[i * RECORD_WIDTH + 1] - base,
+            cut[i * RECORD_WIDTH + 2] - base,
+            cut[i * RECORD_WIDTH + 3] - from,
+        );
+        i += 1;
+    }
+}
+
+// The greatest end in a cut that passed its check.
+fn greatest_of(checked: Checked) -> u16
+    ensures { λ r. ⌜ r ≡ greatest-of checked ⌝ }
+{
+    match checked {
+        Checked::Records(_, greatest, _) => {
+            return greatest;
+        }
+        Checked::Refused(_, _) => {
+            return 0;
+        }
+    }
 }
 
 // A slice of a part: the part check, 21, 22, 23, 19 on the cut part, 13; then the rebased words.
@@ -110,9 +97,12 @@ pub fn slice(
         return Sliced::Refused(22, 0);
     }
     let cut = &words[from..to];
-    let within = check_cut(cut, from, to, base);
+    if let Found::At(at) = starts_below(cut, base) {
+        return Sliced::Refused(23, from + at * RECORD_WIDTH);
+    }
+    let within = part::check_cut(cut, types, from as u16);
     if let Checked::Refused(number, place) = within {
-        return Sliced::Refused(number, place);
+        return Sliced::Refused(number, from + place);
     }
     if out.len() < to - from {
         return Sliced::Refused(13, 0);
@@ -120,6 +110,6 @@ pub fn slice(
     if from == to {
         return Sliced::Words(0, 0);
     }
-    let length = rebase(cut, from as u16, base as u16, out);
-    Sliced::Words(to - from, length)
+    rebase(cut, from as u16, base as u16, out);
+    Sliced::Words(to - from, greatest_of(within) - base as u16)
 }

@@ -5,8 +5,9 @@ use mathlib.Core.List.{List, [], _∷_, _++_}
 use Prim.Native.Nat.{ℕ, zero, suc, _+_}
 use Rattle.words.specs.Outcome.{accepted, refused, Result}
 use Rattle.words.specs.First.{first-from}
-use Rattle.part.specs.Part.{part-check, faults-from, fault, own-fault, crosses}
-use Rattle.slicing.specs.Slice.{cut-check, rebased, largest-end, sliced, slice-outcome, slice-part}
+use Rattle.part.specs.Part.{greatest-end, part-check, faults-from, fault, own-fault, crosses}
+use Rattle.part.specs.Rebased.{rebased}
+use Rattle.slicing.specs.Slice.{sliced, slice-outcome, slice-part}
 use Rattle.records.specs.Forest.{count, behind, line, depth-below, reading}
 use Rattle.records.specs.Parse.{nearest, farther, parse-from, parse}
 use Rattle.records.specs.Check as list
@@ -18,7 +19,7 @@ use Rattle.tree.specs.Cells.{cell, relative, absolute, packed, unless-none, kin
 use Rattle.tree.specs.Calls.{room as tree-room, written, materialise-cells, balance-cells, list-cells}
 use Rattle.tree.proofs.Table as trees
 use Rattle.rules.specs.Cell.{cells-of, first-child}
-use Rattle.rules.specs.PartLowest.{still, earliest, bound, ranges, part-kept}
+use Rattle.rules.specs.PartLowest.{still, earliest, ends-inside, ranges, part-kept}
 use Rattle.rules.specs.Lowest.{chain, chains, any-part, named, top-broken, kind-broken, id-broken, link-broken, count-broken, place-broken, order-broken, inside-broken, end-broken, part-broken, stray-broken, any-of, broken, next-named, first-named, words-end, lowest-from, top-named, bad-cell}
 use Rattle.rules.specs.Calls.{items, unless-bad, result-room, lines-room, handed-in, materialise-call, balance-room, balance-call, list-call}
 
@@ -61,7 +62,7 @@ Slices =
     × (slice-part part-of-P 4 4 12 1 room ≡ record { outcome = refused 23 4; outputs = room ∷ [] })
 
 slices : Slices
-unfolding first-from part-check faults-from fault own-fault crosses cut-check rebased largest-end sliced slice-outcome slice-part
+unfolding first-from part-check faults-from fault own-fault crosses greatest-end rebased sliced slice-outcome slice-part
 slices = (refl, refl, refl)
 
 -- what list gives with an output slice of 13 words: "0,3,0,6 / 1,1,0,2 / 1,2,3,5", and one word is left over
@@ -81,7 +82,7 @@ Listings =
     × (list-call 4 4 0 trees.cells-1024 trees.words-1024 576 (trees.nines 13) ≡ three-lines)
 
 listings : Listings
-unfolding trees.nines materialise-call list-call items unless-bad result-room tree-room lines-room handed-in bad-cell cells-of first-child chain chains any-part named top-broken kind-broken id-broken link-broken count-broken place-broken order-broken inside-broken end-broken part-broken stray-broken any-of broken next-named first-named words-end lowest-from top-named part-kept ranges bound earliest still part-check faults-from fault own-fault crosses _⊕_ nodes siblings kids-of within beyond unpack materialise node-line node-below listing lines line depth-below relative absolute packed unless-none kind id-word cells leading following cell-tree decode-from decode tree-cells materialise-cells list-cells
+unfolding trees.nines materialise-call list-call items unless-bad result-room tree-room lines-room handed-in bad-cell cells-of first-child chain chains any-part named top-broken kind-broken id-broken link-broken count-broken place-broken order-broken inside-broken end-broken part-broken stray-broken any-of broken next-named first-named words-end lowest-from top-named part-kept greatest-end ranges ends-inside earliest still part-check faults-from fault own-fault crosses _⊕_ nodes siblings kids-of within beyond unpack materialise node-line node-below listing lines line depth-below relative absolute packed unless-none kind id-word cells leading following cell-tree decode-from decode tree-cells materialise-cells list-cells
 listings = (refl, refl, refl, refl, refl, refl)
 
 -- The cells of n leaf trees of id 1 and length 1, one after the other from the position s on; the first is cell c.

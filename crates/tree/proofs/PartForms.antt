@@ -15,7 +15,7 @@ use Rattle.words.specs.Outcome.{Outcome, accepted, refused}
 use Rattle.words.specs.Words.{id-of, start-of, end-of}
 use Rattle.words.proofs.Runs.{four-at}
 use Rattle.words.proofs.Outcomes.{never}
-use Rattle.part.specs.Part.{end-index, own-fault, crosses, fault, faults-from, part-check}
+use Rattle.part.specs.Part.{end-index, own-fault, crosses, fault, part-counts, faults-from, part-check}
 use Rattle.part.proofs.Faults.{crosses-none, crosses-some}
 
 -- a number and a place; (0, 0) for none
@@ -53,9 +53,9 @@ entries-fault T n off ends (i ∷ s ∷ e ∷ x ∷ ws) =
 unfoldable pub part-fault : (T : ℕ) → List ℕ → Fault
 part-fault T ws = cond (ltb 65536 T) (1, 0) (cond (not (eqb (length ws % 4) 0)) (16, 0) (entries-fault T (length ws) 0 [] ws))
 
--- the outcome for a part of n records
-abbrev pub fault-outcome : (n : ℕ) → Fault → Outcome
-fault-outcome n f = elim (f .0) [ zero ↦ accepted (n ∷ []) | suc r ↦ refused (suc r) (f .1) ]
+-- the outcome for a part with these counts
+abbrev pub fault-outcome : (counts : List ℕ) → Fault → Outcome
+fault-outcome counts f = elim (f .0) [ zero ↦ accepted counts | suc r ↦ refused (suc r) (f .1) ]
 
 -- What the ends say of the records before record i of a part.
 abbrev pub In : ℕ → List ℕ → Type 0
@@ -222,8 +222,8 @@ unfolding entries-fault
 entries-step T n off ends i s e x ws = refl
 
 module _ (w : List ℕ) (T : ℕ) where
-  abbrev N : ℕ
-  N = length w / 4
+  abbrev N : List ℕ
+  N = part-counts w
 
   step : (i r : ℕ) (more : Outcome) (faults : Fault) → (r ≡ 0 → more ≡ fault-outcome N faults)
       → cond (eqb r 0) more (refused r (i * 4)) ≡ fault-outcome N (chosen r faults (i * 4))
@@ -252,13 +252,13 @@ module _ (w : List ℕ) (T : ℕ) where
       ∙ ap (fault-outcome N) (sym now)
 
 -- The two forms of the part check find the same.
-pub part-forms : (T : ℕ) (ws : List ℕ) → part-check ws T ≡ fault-outcome (length ws / 4) (part-fault T ws)
+pub part-forms : (T : ℕ) (ws : List ℕ) → part-check ws T ≡ fault-outcome (part-counts ws) (part-fault T ws)
 unfolding part-check part-fault
 part-forms T ws = go (ltb 65536 T) (eqb (length ws % 4) 0) refl
   where
     go : (x y : Bool) → eqb (length ws % 4) 0 ≡ y
         → cond x (refused 1 0) (cond (not y) (refused 16 0) (faults-from ws T 0 (length ws / 4)))
-        ≡ fault-outcome (length ws / 4) (cond x (1, 0) (cond (not y) (16, 0) (entries-fault T (length ws) 0 [] ws)))
+        ≡ fault-outcome (part-counts ws) (cond x (1, 0) (cond (not y) (16, 0) (entries-fault T (length ws) 0 [] ws)))
     go true y q = refl
     go false false q = refl
     go false true q =
@@ -267,16 +267,16 @@ part-forms T ws = go (ltb 65536 T) (eqb (length ws % 4) 0) refl
         (record { sound = λ x m. absurd m; complete = λ j l above. absurd (omega arith); rising = tt })
 
 -- accepted exactly when there is no fault
-pub part-accepted : (T : ℕ) (ws : List ℕ) → (part-fault T ws) .0 ≡ 0 → part-check ws T ≡ accepted (length ws / 4 ∷ [])
+pub part-accepted : (T : ℕ) (ws : List ℕ) → (part-fault T ws) .0 ≡ 0 → part-check ws T ≡ accepted (part-counts ws)
 part-accepted T ws h = part-forms T ws ∙ go (part-fault T ws) h
   where
-    go : (f : Fault) → f .0 ≡ 0 → fault-outcome (length ws / 4) f ≡ accepted (length ws / 4 ∷ [])
+    go : (f : Fault) → f .0 ≡ 0 → fault-outcome (part-counts ws) f ≡ accepted (part-counts ws)
     go (zero, at) h = refl
     go (suc r, at) h = absurd (omega arith)
 
 pub accepted-part : (T : ℕ) (ws counts : List ℕ) → part-check ws T ≡ accepted counts → (part-fault T ws) .0 ≡ 0
 accepted-part T ws counts h = go (part-fault T ws) (sym (part-forms T ws) ∙ h)
   where
-    go : (f : Fault) → fault-outcome (length ws / 4) f ≡ accepted counts → f .0 ≡ 0
+    go : (f : Fault) → fault-outcome (part-counts ws) f ≡ accepted counts → f .0 ≡ 0
     go (zero, at) h = refl
     go (suc r, at) h = absurd (never (suc r) at counts h)

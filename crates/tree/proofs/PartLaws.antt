@@ -9,7 +9,7 @@ use native.Mathlib.Nat.{add-zero, le-refl}
 use borrow.Author.Tests.{lt-leb, le-ltb, eq-eqb}
 use lib.ListN.{length, length-append}
 use Rattle.words.specs.Outcome.{accepted}
-use Rattle.part.specs.Part.{part-check}
+use Rattle.part.specs.Part.{part-counts, part-check}
 use Rattle.tree.specs.Trees.{Trees, nil, tree, part, nodes}
 use Rattle.tree.specs.Materialise.{unpack}
 use Rattle.tree.specs.Cells.{id-word}
@@ -78,7 +78,7 @@ module _ (T N : ℕ) where
       ∙ ap (λ (k : ℕ). entries-fault T N k es v) m)))
 
 -- a part that keeps the rules is accepted
-pub parts-accepted : (T s l : ℕ) (ws : List ℕ) → T ≤ 65536 → Parts T s l ws → part-check ws T ≡ accepted (length ws / 4 ∷ [])
+pub parts-accepted : (T s l : ℕ) (ws : List ℕ) → T ≤ 65536 → Parts T s l ws → part-check ws T ≡ accepted (part-counts ws)
 unfolding part-fault entries-fault
 parts-accepted T s l ws types h =
     let us = unpack s 0 ws in

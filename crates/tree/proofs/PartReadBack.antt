@@ -12,7 +12,7 @@ use borrow.Author.Tests.{leb-false, ltb-false, eqb-true}
 use lib.Dec.{ltb, leb, eqb}
 use lib.ListN.{length}
 use Rattle.words.specs.Outcome.{accepted}
-use Rattle.part.specs.Part.{part-check}
+use Rattle.part.specs.Part.{part-counts, part-check}
 use Rattle.part.proofs.Faults.{part-whole}
 use Rattle.tree.specs.Trees.{Trees, nil, tree, part, _⊕_, nodes}
 use Rattle.tree.specs.Materialise.{within, beyond, unpack}
@@ -211,8 +211,8 @@ accepted-spelled T p ws counts h =
 -- So a part keeps the cell rules exactly when the part check accepts it, its records nest and order by range and end
 -- within its length, and its words have 16 bits.
 pub parts-exactly : (T s l : ℕ) (ws : List ℕ) → T ≤ 65536
-    → Parts T s l ws ↔ ((part-check ws T ≡ accepted (length ws / 4 ∷ [])) × Plain T s (s + l) (unpack s 0 ws) × Short ws)
+    → Parts T s l ws ↔ ((part-check ws T ≡ accepted (part-counts ws)) × Plain T s (s + l) (unpack s 0 ws) × Short ws)
 parts-exactly T s l ws types = (
   (λ h. (parts-accepted T s l ws types h, h .ranges, h .words)),
-  (λ h. record { whole = accepted-spelled T s ws (length ws / 4 ∷ []) (h .0); ranges = h .1; words = h .2 }),
+  (λ h. record { whole = accepted-spelled T s ws (part-counts ws) (h .0); ranges = h .1; words = h .2 }),
 )

@@ -190,7 +190,7 @@ impl BuildSession {
         let words = &mut self.words[..lent.words];
         let mut info = [UNTOUCHED; 4];
         let answer = calls::build(case, work, cells, words, &mut info[..lent.held]);
-        let wanted = answered(told, lent.held);
+        let wanted = answered(&told, lent.held);
         if answer != number || info != wanted {
             return Err(format!(
                 "library {answer} {info:x?}, expected {number} {wanted:x?}, lent {lent:?}"

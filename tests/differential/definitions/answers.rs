@@ -7,10 +7,12 @@ use std::sync::Arc;
 use crate::NodeType;
 use crate::antt::{self, Case};
 use crate::calls::Call;
+use crate::computed::{Computed, PARTS, SLICES, TREES};
 use crate::flatten::{Flat, flatten, lines, outline};
 use crate::handed::model::{Handed, bad_cell};
 use crate::lists::List;
 use crate::none_first::NoneFirst;
+use crate::packed::{Part, Sliced};
 use crate::rezel::tree::{NodeSet, Tree, TreeChild};
 use crate::rezel::{guarded, node_set};
 use crate::trees::Sample;
@@ -25,6 +27,19 @@ pub enum Input {
     Wide(Wide),
     Tree(Sample),
     Call(Call),
+    Part(Part),
+    Slice(Sliced),
+}
+
+impl Input {
+    /// The module that a case of it cites.
+    pub fn computed(&self) -> &'static Computed {
+        match self {
+            Self::Part(_) => &PARTS,
+            Self::Slice(_) => &SLICES,
+            _ => &TREES,
+        }
+    }
 }
 
 /// Many empty records of one id and a list behind them, all in one record of the id `parent`, inside so many records of
@@ -39,7 +54,7 @@ pub struct Wide {
 }
 
 /// What the words of an output hold before a call.
-const BEFORE: u64 = 7;
+pub const BEFORE: u16 = 7;
 
 /// The records around a deep list are at least this long: longer than a packed record can be.
 const LONG: u32 = 70_000;
@@ -55,6 +70,8 @@ impl fmt::Display for Input {
             Self::Wide(wide) => write!(out, "{wide}"),
             Self::Tree(sample) => write!(out, "{sample}"),
             Self::Call(call) => write!(out, "{call}"),
+            Self::Part(part) => write!(out, "{part}"),
+            Self::Slice(sliced) => write!(out, "{sliced}"),
         }
     }
 }
@@ -89,6 +106,9 @@ pub struct Seen {
     /// Calls of list by the number that they are answered with, and those that are 15 by the start alone.
     numbers: BTreeMap<u32, usize>,
     late: usize,
+    /// Part checks and slices by the number that they are answered with.
+    part_numbers: BTreeMap<u32, usize>,
+    slice_numbers: BTreeMap<u32, usize>,
 }
 
 impl fmt::Display for Seen {
@@ -102,6 +122,8 @@ impl fmt::Display for Seen {
             otherwise,
             numbers,
             late,
+            part_numbers,
+            slice_numbers,
         } = self;
         write!(
             out,
@@ -111,7 +133,9 @@ impl fmt::Display for Seen {
         write!(out, "{balanced_trees} trees that balancing changes, ")?;
         write!(out, "{otherwise} otherwise with none in place 0, ")?;
         write!(out, "calls of list by number {numbers:?}, ")?;
-        write!(out, "{late} of them 15 by the start alone")
+        write!(out, "{late} of them 15 by the start alone, ")?;
+        write!(out, "part checks by number {part_numbers:?}, ")?;
+        write!(out, "slices by number {slice_numbers:?}")
     }
 }
 
@@ -144,6 +168,14 @@ impl Rust {
             Input::Wide(wide) => self.wide(wide),
             Input::Tree(sample) => Some(self.tree(sample)),
             Input::Call(call) => Some(self.call(call)),
+            Input::Part(part) => {
+                *self.seen.part_numbers.entry(part.number()).or_default() += 1;
+                Some(part.claim())
+            }
+            Input::Slice(sliced) => {
+                *self.seen.slice_numbers.entry(sliced.number()).or_default() += 1;
+                Some(sliced.claim())
+            }
         };
         if claim.is_none() {
             self.wrong.push(format!("the Rust panics: {input}"));
@@ -287,7 +319,7 @@ impl Rust {
         if verdict.number == 0 {
             told.push(verdict.counts[0]);
         }
-        written.resize(call.room, BEFORE);
+        written.resize(call.room, BEFORE.into());
         format!(
             "call-answer {types} {first_repeat} {start} {} {} {} {}\n    ≡ {} ∷ {} ∷ []",
             antt::list(cells),

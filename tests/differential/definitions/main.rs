@@ -1,14 +1,18 @@
-//! Compares the definitions of the build and of the tree calls with the Rust before any code does: random lists and
-//! trees go through the Rust, and antt computes the definitions on the same ones.
+//! Compares the definitions of the build and of the tree calls with the Rust before any code does, and those of the part
+//! check and of slicing with the plain model: random lists, trees and parts go through these, and antt computes the
+//! definitions on the same ones.
 
 mod answers;
 mod antt;
 mod calls;
+mod computed;
 mod flatten;
 mod forests;
 mod lists;
 mod none_first;
+mod packed;
 mod shrink;
+mod specs;
 mod trees;
 mod verdict;
 
@@ -25,10 +29,11 @@ mod shim;
 #[path = "../widths.rs"]
 mod widths;
 
-// The plain model of the part check, and trees that are handed in as cells, with the model of their rules.
+// Random parts and the plain model of the part calls, and trees that are handed in as cells, with the model of their rules.
 #[allow(dead_code)]
 #[path = "../parts"]
 mod parts {
+    pub mod cases;
     pub mod model;
 }
 #[allow(dead_code)]
@@ -63,6 +68,9 @@ struct Options {
     trees: usize,
     /// Calls of list on trees as cells, some of which are refused.
     calls: usize,
+    /// Parts that are checked, and slices of parts, some of which are refused.
+    parts: usize,
+    slices: usize,
     folder: PathBuf,
     /// The repository whose definitions are compared.
     repository: PathBuf,
@@ -76,6 +84,8 @@ fn read_options() -> Result<Options, String> {
         wide: 8,
         trees: 400,
         calls: 400,
+        parts: 400,
+        slices: 200,
         folder: PathBuf::from("target/differential/definitions"),
         repository: PathBuf::from("."),
     };
@@ -87,6 +97,8 @@ fn read_options() -> Result<Options, String> {
             "--wide" => all.wide = given.number()?,
             "--trees" => all.trees = given.number()?,
             "--calls" => all.calls = given.number()?,
+            "--parts" => all.parts = given.number()?,
+            "--slices" => all.slices = given.number()?,
             "--folder" => all.folder = given.path(),
             "--repository" => all.repository = given.path(),
             _ => return given.unknown(),
@@ -110,7 +122,7 @@ fn main() -> ExitCode {
 fn compare(options: &Options) -> io::Result<ExitCode> {
     let mut rust = Rust::default();
     let kinds = cases(options, &mut rust);
-    let folder = Folder::new(options.folder.clone(), &options.repository)?;
+    let folder = Folder::new(options.folder.clone(), &options.repository, &kinds)?;
     println!("seed {}: {}", options.seed, rust.seen);
     let start = Instant::now();
     let found = match prove(&folder, &kinds)? {
@@ -138,6 +150,10 @@ fn cases(options: &Options, rust: &mut Rust) -> Vec<(&'static str, Vec<Case>)> {
     let trees = Vec::from_iter(trees);
     let calls = (0..options.calls).map(|_| Input::Call(calls::random(rng, &sets)));
     let calls = Vec::from_iter(calls);
+    let parts = (0..options.parts).map(|_| Input::Part(packed::random_part(rng)));
+    let parts = Vec::from_iter(parts);
+    let slices = (0..options.slices).map(|_| Input::Slice(packed::random_slice(rng)));
+    let slices = Vec::from_iter(slices);
     let mut made = |inputs: Vec<Input>| {
         let cases = inputs.into_iter().filter_map(|input| rust.case(input));
         cases.collect()
@@ -148,6 +164,8 @@ fn cases(options: &Options, rust: &mut Rust) -> Vec<(&'static str, Vec<Case>)> {
         ("Wide", made(wide)),
         ("Trees", made(trees)),
         ("Calls", made(calls)),
+        ("Parts", made(parts)),
+        ("Slices", made(slices)),
     ]
 }
 
@@ -218,8 +236,15 @@ fn report(options: &Options, rust: &Rust, found: &[Difference]) -> ExitCode {
     let unknown = found.iter().filter(|it| it.unknown).count();
     let differ = found.len() - unknown + rust.wrong.len();
     println!(
-        "{} lists (and {} deep, {} wide ones), {} trees and {} calls of list: {differ} differ, {unknown} not computed",
-        options.lists, options.deep, options.wide, options.trees, options.calls
+        "{} lists (and {} deep, {} wide ones), {} trees, {} calls of list, {} part checks and {} slices: {differ} differ, \
+         {unknown} not computed",
+        options.lists,
+        options.deep,
+        options.wide,
+        options.trees,
+        options.calls,
+        options.parts,
+        options.slices
     );
     match (differ, unknown) {
         (0, 0) => ExitCode::SUCCESS,

@@ -28,18 +28,22 @@ pub fn smaller(input: &Input) -> Vec<Input> {
             samples.map(Input::Tree).collect()
         }
         Input::Call(_) => Vec::new(),
+        Input::Part(part) => part.smaller().map(Input::Part).collect(),
+        Input::Slice(sliced) => sliced.smaller().map(Input::Slice).collect(),
     };
     all.sort_by_key(size);
     all
 }
 
-/// Records, or trees and parts, or words of a call.
+/// Records, or trees and parts, or words of a call or a part.
 pub fn size(input: &Input) -> usize {
     match input {
         Input::List(list) | Input::Deep(list, _) => count(&list.forest),
         Input::Wide(wide) => wide.empties + count(&wide.list.forest),
         Input::Tree(sample) => tree_size(&sample.tree),
         Input::Call(call) => call.tree.cells.len() + call.tree.words.len(),
+        Input::Part(part) => part.size(),
+        Input::Slice(sliced) => sliced.size(),
     }
 }
 

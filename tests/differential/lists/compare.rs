@@ -101,7 +101,7 @@ impl ListSession {
         let mut info = [UNTOUCHED; 4];
         let number = calls::check(list, work, &mut info[..held]);
         let told = [expected.place, expected.count, 0];
-        if number != expected.number || info != answered(told, held) {
+        if number != expected.number || info != answered(&told, held) {
             return Err(format!(
                 "library {number} {info:x?}, expected {expected:?}, {held} words held, work of {filling:?}"
             ));

@@ -4,18 +4,23 @@ use crate::calls;
 use crate::lent::{UNTOUCHED, answered};
 use crate::oracle::{self, Oracle, TreeBuffer};
 use crate::parts::case::{Call, Case};
-use crate::parts::model::{self, Answer, Search, Slice};
+use crate::parts::model::{self, Answer, Checked, Search, Slice};
+use crate::parts::seen::Seen;
 use crate::report::{Outcome, Run, Tally};
 use crate::rezel::Panicked;
 
-/// One call in so many is made again with an answer slice of 0, 1, 2 or 3 words in turn.
-const SHORT_INFO_EVERY: u64 = 5;
+/// The most words that are lent to answer in: one more than any call tells.
+const MOST_HELD: usize = 5;
+
+/// One slice or search in so many is made again with fewer words to answer in. Each part check is; so many of them in a row
+/// have the same number, so that parts and damaged copies in turn meet every number.
+const FEWER_HELD_EVERY: u64 = 5;
 
 /// A part under a number of types, with what model and Rust make of it: many calls use it.
 pub struct Part {
     pub types: u32,
     pub words: Vec<u16>,
-    pub verdict: Answer,
+    pub verdict: Checked,
     buffer: Result<TreeBuffer, Panicked>,
 }
 
@@ -49,6 +54,8 @@ impl Part {
 pub struct PartSession {
     pub oracle: Oracle,
     pub tally: Tally,
+    /// Of the parts on which the part check was compared.
+    pub seen: Seen,
     calls: u64,
 }
 
@@ -68,13 +75,18 @@ impl PartSession {
         part
     }
 
+    /// The Rust has no counts in its check; the records are its buffer's, and the others what it makes of the buffer.
     fn check(&mut self, part: &Part) {
         let case = part.case(Call::Check);
         let call = |info: &mut [u32]| calls::part_check(part.types, &part.words, info);
-        if !self.answers(&case, part.verdict, call) {
+        let fewer = Some(self.seen.parts / FEWER_HELD_EVERY);
+        self.seen.note(&part.words, &part.verdict);
+        if !self.answers(&case, part.verdict, fewer, call) {
             return;
         }
-        let same = part.rust().map(|buffer| buffer.data() == part.words);
+        let same = part.rust().map(|buffer| {
+            buffer.data() == part.words && oracle::counts(buffer) == Ok(part.verdict.counts)
+        });
         self.settle(&case, part.verdict.number, same);
     }
 
@@ -87,7 +99,8 @@ impl PartSession {
             out.copy_from_slice(&before);
             calls::part_slice(part.types, &part.words, &call, &mut out, info)
         };
-        if !self.answers(&case, expected, made) {
+        let fewer = self.now_and_then();
+        if !self.answers(&case, expected, fewer, made) {
             return;
         }
         if out != wanted {
@@ -111,7 +124,8 @@ impl PartSession {
         let case = part.case(Call::Search(call));
         let expected = model::search(part.verdict, &part.words, &call);
         let made = |info: &mut [u32]| calls::part_search(part.types, &part.words, &call, info);
-        if !self.answers(&case, expected, made) {
+        let fewer = self.now_and_then();
+        if !self.answers(&case, expected, fewer, made) {
             return;
         }
         if matches!(expected.number, 21 | 22) {
@@ -145,36 +159,44 @@ impl PartSession {
         self.tally.count(case, number, Outcome::Intended(class));
     }
 
-    /// Whether the library's number, place and counts are the model's: with an answer slice of four words, of which the
-    /// last must stay, and now and then with a shorter one.
-    fn answers(
-        &mut self,
-        case: &Case,
-        expected: Answer,
-        mut call: impl FnMut(&mut [u32]) -> u32,
-    ) -> bool {
+    /// A number for some of the slices and searches, one higher each time.
+    fn now_and_then(&mut self) -> Option<u64> {
         self.calls += 1;
-        if self.calls % SHORT_INFO_EVERY == 0 {
-            let held = (self.calls / SHORT_INFO_EVERY % 4) as usize;
-            if !self.answers_with(case, expected, held, &mut call) {
-                return false;
-            }
-        }
-        self.answers_with(case, expected, 4, &mut call)
+        let turn = self.calls / FEWER_HELD_EVERY;
+        (self.calls % FEWER_HELD_EVERY == 0).then_some(turn)
     }
 
-    fn answers_with(
+    /// Whether the library's number, place and counts are the model's, with the most words to answer in and, where a number
+    /// is given, with 0 to all of them in turn by that number.
+    fn answers<const COUNTS: usize>(
         &mut self,
         case: &Case,
-        expected: Answer,
+        expected: Answer<COUNTS>,
+        fewer: Option<u64>,
+        mut call: impl FnMut(&mut [u32]) -> u32,
+    ) -> bool {
+        let fewer = fewer.map(|turn| turn as usize % (MOST_HELD + 1));
+        let mut held = fewer.into_iter().chain([MOST_HELD]);
+        held.all(|held| self.answers_with(case, expected, held, &mut call))
+    }
+
+    /// The same with so many words. Those behind what is told must stay, and one behind the slice.
+    fn answers_with<const COUNTS: usize>(
+        &mut self,
+        case: &Case,
+        expected: Answer<COUNTS>,
         held: usize,
         call: &mut impl FnMut(&mut [u32]) -> u32,
     ) -> bool {
-        let mut info = [UNTOUCHED; 4];
+        let mut info = [UNTOUCHED; MOST_HELD + 1];
         let number = call(&mut info[..held]);
-        let [first, second] = expected.counts;
-        let told = [expected.place, first, second].map(word);
-        if number == expected.number && info == answered(told, held) {
+        let told: Vec<u32> = [expected.place]
+            .iter()
+            .chain(&expected.counts)
+            .copied()
+            .map(word)
+            .collect();
+        if number == expected.number && info == answered(&told, held) {
             return true;
         }
         let what = format!("library {number} {info:x?}, model {expected:?}, {held} words held");

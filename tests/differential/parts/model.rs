@@ -1,17 +1,22 @@
-//! Document 01's three part calls, read word for word and computed in the plainest way.
+//! Document 01's three part calls, and the counts that request T-03 gives the part check, read word for word and computed in
+//! the plainest way.
 //!
-//! Nothing here is fast or shared with the library: 20 looks at all earlier records, a cut is rebased first and then
-//! looked at as a part of its own, and the way of a search is collected before it is used.
+//! Nothing here is fast or shared with the library: 20 and the nesting look at all earlier records, a cut is rebased first
+//! and then looked at as a part of its own, and the way of a search is collected before it is used.
 
 use crate::widths::RECORD_WIDTH;
 
-/// What a call answers. Refused: the number, the place, counts 0. Accepted: number 0, place 0 and the counts.
+/// What a call that tells so many counts answers. Refused: the number, the place, counts 0. Accepted: number 0, place 0 and
+/// the counts.
 #[derive(Clone, Copy, Debug, Eq, PartialEq)]
-pub struct Answer {
+pub struct Answer<const COUNTS: usize> {
     pub number: u32,
     pub place: u64,
-    pub counts: [u64; 2],
+    pub counts: [u64; COUNTS],
 }
+
+/// The part check's answer. Counts: records, greatest end, deepest nesting.
+pub type Checked = Answer<3>;
 
 #[derive(Clone, Copy, Debug)]
 pub struct Slice {
@@ -34,20 +39,25 @@ pub struct Search {
 
 const LAST: u64 = 4_294_967_295;
 
-fn refused(number: u32, place: usize) -> Answer {
+fn refused<const COUNTS: usize>(number: u32, place: usize) -> Answer<COUNTS> {
     Answer {
         number,
         place: place as u64,
-        counts: [0, 0],
+        counts: [0; COUNTS],
     }
 }
 
-fn accepted(first: usize, second: u64) -> Answer {
+fn accepted<const COUNTS: usize>(counts: [u64; COUNTS]) -> Answer<COUNTS> {
     Answer {
         number: 0,
         place: 0,
-        counts: [first as u64, second],
+        counts,
     }
+}
+
+/// The refusal of a part, as a call on it answers it.
+fn passed_on(verdict: Checked) -> Answer<2> {
+    refused(verdict.number, verdict.place as usize)
 }
 
 struct Record {
@@ -96,25 +106,50 @@ fn fault(types: u32, words: &[u16], offset: usize) -> u32 {
     }
 }
 
-/// The part check: 1, 16, then 17 to 20 record by record. Count: records.
-pub fn check(types: u32, words: &[u16]) -> Answer {
+/// Number and place of a part's refusal, if it is refused: 1, 16, then 17 to 20 record by record.
+pub fn refusal(types: u32, words: &[u16]) -> Option<(u32, usize)> {
     if types > 65_536 {
-        return refused(1, 0);
+        return Some((1, 0));
     }
     if words.len() % RECORD_WIDTH != 0 {
-        return refused(16, 0);
+        return Some((16, 0));
     }
-    for offset in (0..words.len()).step_by(RECORD_WIDTH) {
-        let number = fault(types, words, offset);
-        if number != 0 {
-            return refused(number, offset);
-        }
+    let offsets = (0..words.len()).step_by(RECORD_WIDTH);
+    offsets
+        .map(|offset| (fault(types, words, offset), offset))
+        .find(|&(number, _)| number != 0)
+}
+
+/// "the greatest end of any record (0 for an empty part)"
+fn greatest_end(words: &[u16]) -> u64 {
+    let ends = words.chunks_exact(RECORD_WIDTH).map(|it| u64::from(it[2]));
+    ends.max().unwrap_or(0)
+}
+
+/// How many records hold the one at an offset: the earlier ones whose end index lies past it.
+fn holders(words: &[u16], offset: usize) -> u64 {
+    let earlier = words[..offset].chunks_exact(RECORD_WIDTH);
+    earlier.filter(|it| usize::from(it[3]) > offset).count() as u64
+}
+
+/// "its deepest nesting (1 for records held by no other, 0 for an empty part)"
+fn deepest_nesting(words: &[u16]) -> u64 {
+    let offsets = (0..words.len()).step_by(RECORD_WIDTH);
+    let nestings = offsets.map(|offset| holders(words, offset) + 1);
+    nestings.max().unwrap_or(0)
+}
+
+/// The part check.
+pub fn check(types: u32, words: &[u16]) -> Checked {
+    if let Some((number, offset)) = refusal(types, words) {
+        return refused(number, offset);
     }
-    accepted(words.len() / RECORD_WIDTH, 0)
+    let records = (words.len() / RECORD_WIDTH) as u64;
+    accepted([records, greatest_end(words), deepest_nesting(words)])
 }
 
 /// 21, then 22, on the bounds of a part of so many words.
-fn bounds(from: usize, to: usize, words: usize) -> Option<Answer> {
+fn bounds(from: usize, to: usize, words: usize) -> Option<Answer<2>> {
     if from > to || from > words || to > words {
         return Some(refused(21, 0));
     }
@@ -126,7 +161,12 @@ fn bounds(from: usize, to: usize, words: usize) -> Option<Answer> {
 
 /// Slicing, after the part check's answer for the same words. Counts: words and length. Answers also what stands in
 /// the output slice afterwards, which held `before`.
-pub fn slice(verdict: Answer, words: &[u16], call: &Slice, before: &[u16]) -> (Answer, Vec<u16>) {
+pub fn slice(
+    verdict: Checked,
+    words: &[u16],
+    call: &Slice,
+    before: &[u16],
+) -> (Answer<2>, Vec<u16>) {
     match sliced(verdict, words, call, before.len()) {
         Err(answer) => (answer, before.to_vec()),
         Ok((answer, mut out)) => {
@@ -138,13 +178,13 @@ pub fn slice(verdict: Answer, words: &[u16], call: &Slice, before: &[u16]) -> (A
 }
 
 fn sliced(
-    verdict: Answer,
+    verdict: Checked,
     words: &[u16],
     call: &Slice,
     room: usize,
-) -> Result<(Answer, Vec<u16>), Answer> {
+) -> Result<(Answer<2>, Vec<u16>), Answer<2>> {
     if verdict.number != 0 {
-        return Err(verdict);
+        return Err(passed_on(verdict));
     }
     if let Some(answer) = bounds(call.from, call.to, words.len()) {
         return Err(answer);
@@ -161,9 +201,10 @@ fn sliced(
     if room < cut.len() {
         return Err(refused(13, 0));
     }
-    let length = cut.chunks(RECORD_WIDTH).map(|it| it[2]).max().unwrap_or(0);
-    let out = cut.iter().map(|&word| word as u16).collect();
-    Ok((accepted(cut.len(), length), out))
+    let out: Vec<u16> = cut.iter().map(|&word| word as u16).collect();
+    // "A slice's length is this figure for the part written"
+    let length = greatest_end(&out);
+    Ok((accepted([out.len() as u64, length]), out))
 }
 
 /// The cut with the base taken from starts and ends, and the first bound from end indices.
@@ -215,9 +256,9 @@ fn on_side(words: &[u16], at: usize, call: &Search) -> bool {
 }
 
 /// Searching, after the part check's answer for the same words. Counts: 1 and the match's offset, or 0 and 0.
-pub fn search(verdict: Answer, words: &[u16], call: &Search) -> Answer {
+pub fn search(verdict: Checked, words: &[u16], call: &Search) -> Answer<2> {
     if verdict.number != 0 {
-        return verdict;
+        return passed_on(verdict);
     }
     if let Some(answer) = bounds(call.from, call.to, words.len()) {
         return answer;
@@ -239,8 +280,8 @@ pub fn search(verdict: Answer, words: &[u16], call: &Search) -> Answer {
         matching.last()
     };
     match chosen {
-        Some(&offset) => accepted(1, offset as u64),
-        None => accepted(0, 0),
+        Some(&offset) => accepted([1, offset as u64]),
+        None => accepted([0, 0]),
     }
 }
 

@@ -3,13 +3,12 @@
 //! Only cases on which document 01 and the Rust agree about accepted or refused are taken, and none on which the Rust
 //! may run for ever. The answers are the Rust's; the model only says which kind of case it is.
 
-use crate::oracle::Oracle;
+use crate::oracle::{self, Oracle};
 use crate::parts::cases;
 use crate::parts::compare::{Part, search_rust, slice_rust};
 use crate::parts::model::{self, Search, Slice};
 use crate::recording::{self, Taken, counted};
 use crate::rng::Rng;
-use crate::widths::RECORD_WIDTH;
 
 /// Bounds above this are left out, so that a reader of the lines needs no more than 32 bits.
 const FARTHEST: usize = u32::MAX as usize;
@@ -80,13 +79,17 @@ impl recording::Sample for Sample {
 impl Sample {
     fn check(&mut self, part: &Part) {
         let number = part.verdict.number;
-        let answer = match part.rust() {
-            Ok(buffer) => format!("records {}", buffer.data().len() / RECORD_WIDTH),
-            Err(_) => String::from("refused"),
-        };
-        if (number == 0) != part.rust().is_ok() {
+        let rust = part.rust();
+        if (number == 0) != rust.is_ok() {
             return;
         }
+        let answer = match rust {
+            Ok(buffer) => {
+                let [records, end, nesting] = oracle::counts(buffer).expect("counts of a buffer");
+                format!("records {records} end {end} nesting {nesting}")
+            }
+            Err(_) => String::from("refused"),
+        };
         let asked = format!("1 {}{}", part.types, counted(&part.words));
         self.take("check", number, "", asked, answer);
     }

@@ -1,4 +1,5 @@
-//! Every short part over small alphabets, good and bad, with every bound, side and direction.
+//! Every short part over small alphabets, good and bad, with every bound, side and direction; those of four and five records
+//! with the part check alone.
 
 use crate::parts::compare::{Part, PartSession};
 use crate::parts::model::{Search, Slice};
@@ -37,6 +38,30 @@ const THREE: Records<u16> = Records {
     lasts: &[&[0, 4, 6, 8, 12, 16], &[4, 8, 10, 12, 16], &[8, 11, 12, 16]],
 };
 
+/// Four records with every end index of whole records up to one past the part, and five with those inside it.
+const FOUR: Records<u16> = Records {
+    ids: &[0, 1],
+    ranges: &[(0, 1), (0, 2), (1, 3)],
+    lasts: &[
+        &[4, 8, 12, 16, 20],
+        &[8, 12, 16, 20],
+        &[12, 16, 20],
+        &[16, 20],
+    ],
+};
+
+const FIVE: Records<u16> = Records {
+    ids: &[0],
+    ranges: &[(0, 1), (0, 2), (1, 3)],
+    lasts: &[
+        &[4, 8, 12, 16, 20],
+        &[8, 12, 16, 20],
+        &[12, 16, 20],
+        &[16, 20],
+        &[20],
+    ],
+};
+
 pub fn run(session: &mut PartSession) {
     for types in TYPES {
         with_calls(session, types, &[]);
@@ -45,6 +70,13 @@ pub fn run(session: &mut PartSession) {
     }
     THREE.spell(|words| with_calls(session, 2, words));
     uneven_parts(session);
+}
+
+/// Every nesting of four and five records, with ends that grow or fall from record to record, and crossing ones.
+pub fn check_alone(session: &mut PartSession) {
+    for records in [FOUR, FIVE] {
+        records.spell(|words| drop(session.part(2, words.to_vec())));
+    }
 }
 
 /// Lengths that are no multiple of 4, with records that would be at fault too.

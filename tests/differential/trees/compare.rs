@@ -350,7 +350,7 @@ impl TreeSession {
             Call::Balance(none_first) => calls::balance(tree, none_first, work, out, packed, held),
         };
         let [first, second] = verdict.counts;
-        let wanted = answered([verdict.place, first, second], lent.held);
+        let wanted = answered(&[verdict.place, first, second], lent.held);
         if number != verdict.number || info != wanted {
             let Slices { held, filling, .. } = lent;
             return Err(format!(

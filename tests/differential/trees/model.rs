@@ -269,7 +269,7 @@ impl<'a> Rules<'a> {
             return true;
         }
         let words = &self.words[it.first as usize..end as usize];
-        model::check(self.types, words).number != 0 || records_stray(words, it.length)
+        model::refusal(self.types, words).is_some() || records_stray(words, it.length)
     }
 
     /// "words after the last part against that part's cell or cell 1"

@@ -1,6 +1,5 @@
--- `cells::earliest_start` meets its contract: each return is one side of the test. Assumes nothing.
+-- `cells::earliest_start` meets its contract. Assumes nothing.
 use borrow.Author.Needs.{needs}
-use Prim.Native.Nat.{_-_}
 use borrow.Author.Tests.{le-ltb, lt-ltb}
 use Rattle.cells.proofs.earliest_start.Statement.{statement}
 use Rattle.cells.proofs.earliest_start.Tie as tie
@@ -15,8 +14,6 @@ pub earliest-start-spec : {M : Type 1} → statement M
 earliest-start-spec =
     tie.close
     (tie.spec
-    (λ c. search needs)
-    (λ c. search needs)
     (λ c. search needs)
     (λ c. search needs)
     (λ c. search needs)

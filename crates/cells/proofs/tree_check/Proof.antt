@@ -32,8 +32,8 @@ chain-lengths-requires c κs =
     let p = c .before .before .before .before .before .before .before .pre in
     (omega (arith, c .before .before .if2 .left), omega (arith, room (now (a .cells)) (now (a .words)) _ (p .1)))
 
-check-cells-requires : tie.Need-check-cells-requires
-check-cells-requires c κs =
+lowest-cell-requires : tie.Need-lowest-cell-requires
+lowest-cell-requires c κs =
     let a = c .before .before .before .before .before .before .before .before .before .before .before .args in
     let p = c .before .before .before .before .before .before .before .before .before .before .before .pre in
     let i2 = c .before .before .before .before .before .before .if2 in
@@ -51,7 +51,7 @@ returns-3 c =
     let a = c .before .before .before .before .before .before .before .before .before .before .before .before .before .before .before .args in
     let i1 = c .before .before .before .before .before .before .before .before .before .before .before .if1 in
     let i2 = c .before .before .before .before .before .before .before .before .before .before .if2 in
-    let r = c .before .before .before .check-cells in
+    let r = c .before .before .before .lowest-cell in
     bad-none (a .types) (a .start) (now (a .cells)) (now (a .words)) (length (now (a .cells)) / cell-width) (r .result) (i1 .left) (i2 .left) refl (r .ensures) (c .if3 .taken)
 
 returns-4 : tie.Need-returns-4
@@ -59,7 +59,7 @@ returns-4 c =
     let a = c .before .before .before .before .before .before .before .before .before .before .before .before .before .before .before .args in
     let i1 = c .before .before .before .before .before .before .before .before .before .before .before .if1 in
     let i2 = c .before .before .before .before .before .before .before .before .before .before .if2 in
-    let r = c .before .before .before .check-cells in
+    let r = c .before .before .before .lowest-cell in
     bad-some (a .types) (a .start) (now (a .cells)) (now (a .words)) (length (now (a .cells)) / cell-width) (r .result) (i1 .left) (i2 .left) refl (r .ensures) (c .if3 .left)
 
 pub tree-check-spec : {M : Type 1} → statement M
@@ -70,7 +70,7 @@ tree-check-spec =
     returns-2
     (λ c κs. search needs)
     chain-lengths-requires
-    check-cells-requires
+    lowest-cell-requires
     (λ c. search needs)
     returns-3
     (λ c. search needs)

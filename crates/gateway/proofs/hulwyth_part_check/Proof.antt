@@ -11,12 +11,12 @@ use Rattle.gateway.proofs.hulwyth_part_check.Tie as tie
 returns : tie.Need-returns
 returns c =
     let v = c .before .before .before .before .before .before .answer .given in
-    told-as 2 _ (accepted (v .0 .0 ∷ [])) _ _ (ap checked-outcome (sym (v .1)) ∙ c .before .before .before .before .before .before .before .before .part-check .ensures) (c .before .before .tell .ensures)
+    told-as 3 _ (accepted (v .0 .0 ∷ v .0 .1 .0 ∷ v .0 .1 .1 .0 ∷ [])) _ _ (ap checked-outcome (sym (v .1)) ∙ c .before .before .before .before .before .before .before .before .part-check .ensures) (c .before .before .tell .ensures)
 
 returns-2 : tie.Need-returns-2
 returns-2 c =
     let v = c .before .before .before .before .before .before .answer2 .given in
-    told-as 2 _ (refused (v .0 .0) (v .0 .1 .0)) _ _ (ap checked-outcome (sym (v .1)) ∙ c .before .before .before .before .before .before .before .before .part-check .ensures) (c .before .before .tell2 .ensures)
+    told-as 3 _ (refused (v .0 .0) (v .0 .1 .0)) _ _ (ap checked-outcome (sym (v .1)) ∙ c .before .before .before .before .before .before .before .before .part-check .ensures) (c .before .before .tell2 .ensures)
 
 pub hulwyth-part-check-spec : {M : Type 1} → statement M
 hulwyth-part-check-spec =

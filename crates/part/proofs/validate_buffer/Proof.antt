@@ -1,119 +1,96 @@
--- `part::validate_buffer` meets its contract. The invariant: the array holds the ends of the open records, and the check of the
--- records from i on gives the same outcome as the check of all. Assumes nothing.
-use Rattle.part.proofs.Faults.{Sound, own-sound, fault-own, fault-crossing, fault-none, from-fault, from-clear, from-end}
-use Rattle.part.proofs.OpenEnds.{Stack, stack-none, stack-pop, stack-crossing, stack-clear, stack-push}
-use Rattle.part.specs.Part.{end-index, own-fault, fault, faults-from}
-use Rattle.words.specs.Outcome.{refused}
-use denote.Ref.{now}
-use lib.ListN.{getD, length, length-set}
-use native.Mathlib.Omega.{arith}
+-- `part::validate_buffer` meets its contract. The invariant: the array holds the ends of the open records, the check of the records
+-- from i on gives the same outcome as the check of all, and so do the counts. Assumes nothing.
 use borrow.Author.Needs.{needs}
+use denote.Ref.{now}
+use lib.ListN.{length}
+use native.Mathlib.Omega.{arith}
 use Prim.Native.Nat.{ℕ, _≤_, _<_, _+_, _-_, _*_, _/_}
-use mathlib.Core.Logic.{⊎-elim}
-use mathlib.Core.List.{List}
+use mathlib.Core.List.{List, [], _∷_}
 use mathlib.Core.Path.{_≡_, sym, _∙_, refl, ap}
+use Rattle.words.specs.Outcome.{accepted, refused}
+use Rattle.part.specs.Part.{fault, faults-from}
+use Rattle.part.specs.Rebased.{rebased}
+use Rattle.part.specs.Open.{Stack}
+use Rattle.part.proofs.Faults.{from-fault, from-clear, from-end}
+use Rattle.part.proofs.OneRecord.{same-length}
+use Rattle.part.proofs.OpenEnds.{stack-none}
+use Rattle.part.proofs.Counts.{Counted, counted-none, counted-next, counted-greatest, counted-deepest}
 use Rattle.part.proofs.validate_buffer.Statement.{statement}
 use Rattle.part.proofs.validate_buffer.Tie as tie
 
 abbrev Inv-loop : tie.InvT-loop
-Inv-loop words types ends₀ records top₀ i₀ ends top i = (i ≤ records) × Stack words ends i top × (faults-from words types 0 records ≡ faults-from words types i (records - i)) × (length ends ≡ length ends₀)
+Inv-loop words types from ends₀ records s₀ i₀ ends s i = (i ≤ records) × (length ends ≡ length ends₀) × Stack (rebased from 0 words) ends i (s .top) × Counted (rebased from 0 words) i (s .greatest) (s .deepest) × (faults-from (rebased from 0 words) types 0 records ≡ faults-from (rebased from 0 words) types i (records - i))
 
 abbrev μ-loop : tie.MeasureT-loop
-μ-loop words types ends₀ records top₀ i₀ ends top i = records - i
+μ-loop words types from ends₀ records s₀ i₀ ends s i = records - i
 
--- what is known once record i has no fault of its own, and once the ends that do not enclose it are dropped
-module _ (c : tie.Else1 Inv-loop μ-loop) where
-  abbrev w₁ : List ℕ
-  w₁ = now (c .before .before .before .before .before .before .args .words)
-
-  abbrev i₁ : ℕ
-  i₁ = c .before .before .before .loop .i
-
-  own-at : own-fault w₁ (c .before .before .before .before .before .before .args .types) i₁ ≡ 0
-  own-at = sym (c .before .own-fault .ensures) ∙ c .if1 .left
-
-  sound-at : Sound w₁ (c .before .before .before .before .before .before .args .types) i₁
-  sound-at = own-sound w₁ (c .before .before .before .before .before .before .args .types) i₁ own-at
-
-few-at : (c : tie.After-shared-slice-known2 Inv-loop μ-loop) → i₁ (c .before) < 16383
-few-at c = omega (arith, sound-at (c .before) .after, c .shared-slice-known2 .given (i₁ (c .before) * 4 + 3))
-
-module _ (c : tie.After-still-open Inv-loop μ-loop) where
-  abbrev e₂ : tie.Else1 Inv-loop μ-loop
-  e₂ = c .before .before .before
-
-  popped : Stack (w₁ e₂) (e₂ .before .before .before .loop .ends) (i₁ e₂) (c .still-open .result)
-  popped = stack-pop (w₁ e₂) (e₂ .before .before .before .loop .ends) (i₁ e₂) (e₂ .before .before .before .loop .top) (c .still-open .result) (e₂ .before .before .before .loop .inv .1) (c .still-open .ensures)
-
-  room : c .still-open .result < length (e₂ .before .before .before .loop .ends)
-  room = omega (arith, popped .few, few-at (c .before .before), popped .room, e₂ .before .before .loop-test .taken)
-
-high : (c : tie.Joined2 Inv-loop μ-loop) → 0 < c .before .still-open .result → end-index (w₁ (e₂ (c .before))) (i₁ (e₂ (c .before))) ≤ getD (e₂ (c .before) .before .before .before .loop .ends) (c .before .still-open .result - 1) 0
-high c pos = ⊎-elim (λ u. u .2 .left) (λ v. omega arith) (c .if2 .came)
+-- the counts, each by its equation
+told : {a b c d e f : ℕ} → a ≡ b → c ≡ d → e ≡ f → accepted (a ∷ d ∷ f ∷ []) ≡ accepted (b ∷ c ∷ e ∷ [])
+told p q r = rw (p, q, r)
 
 loop-holds : tie.Need-loop-holds Inv-loop μ-loop
-loop-holds c = (omega arith, stack-none _ _ (c .before .before .pre), ap (faults-from _ _ 0) (omega arith), refl)
+loop-holds c =
+    let z = c .before .before in
+    let v = rebased (z .args .from) 0 (now (z .args .words)) in
+    let same = same-length (now (z .args .words)) (z .args .from) 0 (z .pre .0) in
+    (omega arith, refl, stack-none v (now (z .args .ends)) (omega (arith, same, z .pre .1)), counted-none v, ap (faults-from v (z .args .types) 0) (omega arith))
 
-same-length : tie.Need-same-length Inv-loop μ-loop
-same-length c = c .before .before .before .loop .inv .3
+check-record-requires : tie.Need-check-record-requires Inv-loop μ-loop
+check-record-requires c κs =
+    let z = c .before .before .before .before .before in
+    let l = c .before .before in
+    (z .pre .0, (omega (arith, c .before .loop-test .taken), l .loop .inv .2))
+
+-- once record i is tested
+module _ (k : tie.After-check-record Inv-loop μ-loop) where
+  abbrev l₁ : tie.At-loop Inv-loop μ-loop
+  l₁ = k .before .before .before
+
+  abbrev z₁ : tie.Start Inv-loop μ-loop
+  z₁ = l₁ .before .before .before
+
+  abbrev w₁ : List ℕ
+  w₁ = now (z₁ .args .words)
+
+  abbrev v₁ : List ℕ
+  v₁ = rebased (z₁ .args .from) 0 w₁
+
+  fault-at : k .check-record .result .fault ≡ fault v₁ (z₁ .args .types) (l₁ .loop .i)
+  fault-at = k .check-record .ensures .fault-is
 
 returns : tie.Need-returns Inv-loop μ-loop
 returns c =
-    let l = c .before .before .before in
-    let s = l .before .before .before in
-    let w = now (s .args .words) in
-    let own : c .before .own-fault .result ≡ own-fault w (s .args .types) (l .loop .i) = c .before .own-fault .ensures in
-    let bad : own-fault w (s .args .types) (l .loop .i) ≡ 0 → ⊥ = λ z. c .if1 .taken (own ∙ z) in
-    let same = fault-own w (s .args .types) (l .loop .i) bad in
-    sym (l .loop .inv .2 ∙ from-fault w (s .args .types) (l .loop .i) (length w / 4) (c .before .before .loop-test .taken) (λ z. bad (sym same ∙ z)) ∙ ap (λ (n : ℕ). refused n (l .loop .i * 4)) (same ∙ sym own))
-
-still-open-requires : tie.Need-still-open-requires Inv-loop μ-loop
-still-open-requires c κs = omega (arith, few-at (c .before), c .before .before .before .before .before .loop .inv .1 .room, c .before .before .before .before .before .loop .inv .1 .few, c .before .before .before .before .loop-test .taken)
-
-slice-read-if3 : tie.Need-slice-read-if3 Inv-loop μ-loop
-slice-read-if3 c = omega (arith, room (c .before .before))
-
-same-length-2 : tie.Need-same-length-2 Inv-loop μ-loop
-same-length-2 c = c .before .before .before .before .before .before .before .before .before .loop .inv .3
-
-returns-2 : tie.Need-returns-2 Inv-loop μ-loop
-returns-2 c =
-    let o = c .before .before .before in
-    let e = e₂ o in
-    let l = e .before .before .before in
-    let r = o .still-open .result in
-    let types = e .before .before .before .before .before .before .args .types in
-    let crossing = stack-crossing (w₁ e) (l .loop .ends) (i₁ e) r (end-index (w₁ e) (i₁ e)) (popped o) (c .before .before .if2 .taken) (o .still-open .ensures .innermost (c .before .before .if2 .taken)) (c .if3 .taken) in
-    let is = fault-crossing (w₁ e) types (i₁ e) (own-at e) crossing in
-    sym (l .loop .inv .2 ∙ from-fault (w₁ e) types (i₁ e) (length (w₁ e) / 4) (e .before .before .loop-test .taken) (λ z. omega arith) ∙ ap (λ (n : ℕ). refused n (i₁ e * 4)) is)
-
-slice-write-ends : tie.Need-slice-write-ends Inv-loop μ-loop
-slice-write-ends c = room (c .before)
-
-loop-less : tie.Need-loop-less Inv-loop μ-loop
-loop-less c = omega arith
+    let k = c .before .before .before .before in
+    let l = l₁ k in
+    let i = l .loop .i in
+    sym (l .loop .inv .4
+    ∙ (from-fault (v₁ k) (z₁ k .args .types) i (length (w₁ k) / 4) (k .before .before .loop-test .taken) (λ e. c .if1 .taken (fault-at k ∙ e))
+    ∙ ap (λ (n : ℕ). refused n (i * 4)) (sym (fault-at k))))
 
 loop-again : tie.Need-loop-again Inv-loop μ-loop
 loop-again c =
-    let e = e₂ (c .before) in
-    let l = e .before .before .before in
-    let r = c .before .still-open .result in
-    let types = e .before .before .before .before .before .before .args .types in
-    let n = end-index (w₁ e) (i₁ e) in
-    let clear = stack-clear (w₁ e) (l .loop .ends) (i₁ e) r n (popped (c .before)) (high c) in (
-      omega arith,
-      stack-push (w₁ e) (l .loop .ends) (i₁ e) r n (popped (c .before)) (room (c .before)) (high c) refl,
-      l .loop .inv .2 ∙ from-clear (w₁ e) types (i₁ e) (length (w₁ e) / 4) (e .before .before .loop-test .taken) (fault-none (w₁ e) types (i₁ e) (own-at e) clear),
-      length-set (l .loop .ends) r n ∙ l .loop .inv .3,
+    let k = c .before .before .before .before in
+    let l = l₁ k in
+    let i = l .loop .i in
+    let p = k .check-record .ensures .passed (c .if1 .left) in
+    let same = same-length (w₁ k) (z₁ k .args .from) i (z₁ k .pre .0) in (
+      omega (arith, k .before .before .loop-test .taken),
+      omega (arith, l .loop .inv .1, k .check-record .kept),
+      p .stack,
+      counted-next (v₁ k) i _ _ (l .loop .inv .3) _ _ (omega (arith, same, k .before .before .loop-test .taken)) (p .greatest-is) (p .deepest-is),
+      l .loop .inv .4 ∙ from-clear (v₁ k) (z₁ k .args .types) i (length (w₁ k) / 4) (k .before .before .loop-test .taken) (sym (fault-at k) ∙ c .if1 .left),
     )
 
-same-length-3 : tie.Need-same-length-3 Inv-loop μ-loop
-same-length-3 c = c .before .loop .inv .3
-
-returns-3 : tie.Need-returns-3 Inv-loop μ-loop
-returns-3 c =
-    let s = c .before .before .before .before .args in
-    sym (c .before .loop .inv .2 ∙ from-end (now (s .words)) (s .types) (c .before .loop .i) (length (now (s .words)) / 4) (c .loop-test .left))
+returns-2 : tie.Need-returns-2 Inv-loop μ-loop
+returns-2 c =
+    let l = c .before in
+    let z = l .before .before .before in
+    let v = rebased (z .args .from) 0 (now (z .args .words)) in
+    let n = length (now (z .args .words)) / 4 in
+    let same : length v / 4 ≡ n = omega (arith, same-length (now (z .args .words)) (z .args .from) 0 (z .pre .0)) in
+    let greatest = counted-greatest v (l .loop .i) _ _ (l .loop .inv .3) (omega (arith, same, c .loop-test .left)) in
+    let deepest = counted-deepest v (l .loop .i) _ _ (l .loop .inv .3) (omega (arith, same, c .loop-test .left)) in
+    sym (l .loop .inv .4 ∙ (from-end v (z .args .types) (l .loop .i) n (c .loop-test .left) ∙ told same greatest deepest))
 
 pub validate-buffer-spec : {M : Type 1} → statement M
 validate-buffer-spec =
@@ -122,27 +99,12 @@ validate-buffer-spec =
     Inv-loop
     μ-loop
     loop-holds
-    (λ c κs. search needs)
+    check-record-requires
     (λ c. search needs)
-    same-length
+    (λ c. search needs)
     returns
     (λ c. search needs)
     (λ c. search needs)
-    (λ c. search needs)
-    (λ c. search needs)
-    (λ c. search needs)
-    still-open-requires
-    (λ c. search needs)
-    (λ c. search needs)
-    slice-read-if3
-    (λ c. search needs)
-    same-length-2
-    returns-2
-    (λ c. search needs)
-    slice-write-ends
-    (λ c. search needs)
-    (λ c. search needs)
-    loop-less
     loop-again
-    same-length-3
-    returns-3)
+    (λ c. search needs)
+    returns-2)

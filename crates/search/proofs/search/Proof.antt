@@ -30,7 +30,7 @@ module _ (e : tie.After-enum-told) where
   w₁ = now (s₁ .args .words)
 
   abbrev counts₁ : List ℕ
-  counts₁ = e .enum-told .given .0 .0 ∷ []
+  counts₁ = e .enum-told .given .0 .0 ∷ e .enum-told .given .0 .1 .0 ∷ e .enum-told .given .0 .1 .1 .0 ∷ []
 
   ok-at : part-check w₁ (s₁ .args .types) ≡ accepted counts₁
   ok-at = sym (e .before .before .part-check .ensures) ∙ ap checked-outcome (e .enum-told .given .1)
