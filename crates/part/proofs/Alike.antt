@@ -30,8 +30,11 @@ own-alike w v types i s a = rw (a .id, le-ltb (end-of w i) (start-of w i) (a .or
 pub fault-alike : (w v : List ℕ) (types i : ℕ) → length w ≡ length v → ((j : ℕ) → j ≤ i → Alike w v j) → fault w types i ≡ fault v types i
 unfolding fault
 fault-alike w v types i s a =
-    rw (own-alike w v types i s (a i (omega arith)), a i (omega arith) .index,
-    crosses-alike w v i (i * 4) (end-index v i) (λ j l. a j (omega arith) .index))
+    rw (
+      own-alike w v types i s (a i (omega arith)),
+      a i (omega arith) .index,
+      crosses-alike w v i (i * 4) (end-index v i) (λ j l. a j (omega arith) .index),
+    )
 
 -- with the same faults one is refused just as the other; accepted, each has its own counts
 pub same-faults : (w v : List ℕ) (types i left : ℕ) → ((j : ℕ) → i ≤ j → j < i + left → fault w types j ≡ fault v types j)

@@ -46,27 +46,42 @@ module _ (w : List ℕ) (from i : ℕ) where
           pub early : e < i * 4 + 4 → 19 ≡ own-fault v types i
           unfolding own-fault
           early h =
-              rw (lt-leb types (id-of v i) (omega (arith, at .id)), le-ltb (end-of v i) (start-of v i) (omega (arith, at .start, at .end)),
-              lt-ltb (end-index v i) (i * 4 + 4) (omega arith))
+              rw (
+                lt-leb types (id-of v i) (omega (arith, at .id)),
+                le-ltb (end-of v i) (start-of v i) (omega (arith, at .start, at .end)),
+                lt-ltb (end-index v i) (i * 4 + 4) (omega arith),
+              )
 
           module _ (after : i * 4 + 4 ≤ e) where
             pub past : length w < e → 19 ≡ own-fault v types i
             unfolding own-fault
             past h =
-                rw (lt-leb types (id-of v i) (omega (arith, at .id)), le-ltb (end-of v i) (start-of v i) (omega (arith, at .start, at .end)),
-                le-ltb (end-index v i) (i * 4 + 4) (omega arith), lt-ltb (length v) (end-index v i) (omega (arith, same-length whole)))
+                rw (
+                  lt-leb types (id-of v i) (omega (arith, at .id)),
+                  le-ltb (end-of v i) (start-of v i) (omega (arith, at .start, at .end)),
+                  le-ltb (end-index v i) (i * 4 + 4) (omega arith),
+                  lt-ltb (length v) (end-index v i) (omega (arith, same-length whole)),
+                )
 
             module _ (within : e ≤ length w) where
               pub uneven : (e % 4 ≡ 0 → ⊥) → 19 ≡ own-fault v types i
               unfolding own-fault
               uneven h =
-                  rw (lt-leb types (id-of v i) (omega (arith, at .id)), le-ltb (end-of v i) (start-of v i) (omega (arith, at .start, at .end)),
-                  le-ltb (end-index v i) (i * 4 + 4) (omega arith), le-ltb (length v) (end-index v i) (omega (arith, same-length whole)),
-                  ne-eqb (end-index v i % 4) 0 (λ z. h (rw is z)))
+                  rw (
+                    lt-leb types (id-of v i) (omega (arith, at .id)),
+                    le-ltb (end-of v i) (start-of v i) (omega (arith, at .start, at .end)),
+                    le-ltb (end-index v i) (i * 4 + 4) (omega arith),
+                    le-ltb (length v) (end-index v i) (omega (arith, same-length whole)),
+                    ne-eqb (end-index v i % 4) 0 (λ z. h (rw is z)),
+                  )
 
               pub none-applies : e % 4 ≡ 0 → 0 ≡ own-fault v types i
               unfolding own-fault
               none-applies h =
-                  rw (lt-leb types (id-of v i) (omega (arith, at .id)), le-ltb (end-of v i) (start-of v i) (omega (arith, at .start, at .end)),
-                  le-ltb (end-index v i) (i * 4 + 4) (omega arith), le-ltb (length v) (end-index v i) (omega (arith, same-length whole)),
-                  eq-eqb (end-index v i % 4) 0 (rw (← is) h))
+                  rw (
+                    lt-leb types (id-of v i) (omega (arith, at .id)),
+                    le-ltb (end-of v i) (start-of v i) (omega (arith, at .start, at .end)),
+                    le-ltb (end-index v i) (i * 4 + 4) (omega arith),
+                    le-ltb (length v) (end-index v i) (omega (arith, same-length whole)),
+                    eq-eqb (end-index v i % 4) 0 (rw (← is) h),
+                  )

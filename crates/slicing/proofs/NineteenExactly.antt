@@ -161,8 +161,15 @@ module _ (w : List ℕ) (types from to base : ℕ) (c : Cuttable w types from to
   pub nineteen-exactly : (room : ℕ) → slice-outcome w types from to base room ≡ by-bound room
   unfolding slice-outcome sliced
   nineteen-exactly room =
-      rw (c .part, le-ltb _ _ (c .in-order), le-ltb _ _ (c .inside), eq-eqb _ _ (c .whole-from), eq-eqb _ _ (c .whole-to), none-below,
-      rebased-check w types from to base _ (c .part) (c .in-order) (c .inside) (c .whole-from) (c .whole-to))
+      rw (
+        c .part,
+        le-ltb _ _ (c .in-order),
+        le-ltb _ _ (c .inside),
+        eq-eqb _ _ (c .whole-from),
+        eq-eqb _ _ (c .whole-to),
+        none-below,
+        rebased-check w types from to base _ (c .part) (c .in-order) (c .inside) (c .whole-from) (c .whole-to),
+      )
       (go (outside (run w from to) to))
     where
       later : Outcome

@@ -83,9 +83,10 @@ read-cell-requires c κs =
 cell-broken-requires : tie.Need-cell-broken-requires Inv-loop μ-loop
 cell-broken-requires c κs =
     let l = l₃ (c .before .before) in
-    let z = z₁ l in
-    ((l .loop-test .taken, omega arith),
-    (record { for-indices = omega (arith, z .pre .1, v₁ l .loop .inv .3); for-ends = omega (arith, part-room l) }, z .pre .0 .types))
+    let z = z₁ l in (
+      (l .loop-test .taken, omega arith),
+      (record { for-indices = omega (arith, z .pre .1, v₁ l .loop .inv .3); for-ends = omega (arith, part-room l) }, z .pre .0 .types),
+    )
 
 returns-2 : tie.Need-returns-2 Inv-loop μ-loop
 returns-2 c =
