@@ -8,6 +8,7 @@ use mathlib.Core.Path.{_≡_, refl, sym, ap, _∙_}
 use Prim.Native.Nat.{ℕ, _+_, _-_, _*_, max, _<_, _≤_}
 use native.Mathlib.Omega.{arith}
 use lib.ListN.{length, getD, set}
+use Rattle.words.specs.Words.{end-of}
 use Rattle.part.specs.Part.{end-index, own-fault, enclosing}
 use Rattle.part.specs.Rebased.{rebased}
 use Rattle.part.specs.Open.{Stack}
@@ -110,6 +111,8 @@ returns-3 c =
     let is : end (e₂ o) ≡ end-index (v z) (i z) = e₂ o .end-index .ensures in
     let top : 0 < r₂ o → end-index (v z) (i z) ≤ getD (ends z) (r₂ o - 1) 0 = λ pos. omega (arith, is, high j pos) in
     let clear = stack-clear (v z) (ends z) (i z) (r₂ o) (end-index (v z) (i z)) (popped o) top in
+    let greatest : c .before .larger .result ≡ max (z .args .s .greatest) (end-of (now (z .args .words)) (i z)) = c .before .larger .ensures in
+    let deepest : c .deeper .result ≡ max (z .args .s .deepest) (r₂ o + 1) = c .deeper .ensures in
     let nests : enclosing (v z) (i z) (i z * 4) ≡ r₂ o = stack-nesting (v z) (ends z) (i z) (r₂ o) (popped o) (o .still-open .ensures .innermost) in
     record {
       fault-is = sym (fault-none (v z) (z .args .types) (i z) (own-at (e₂ o)) clear);
@@ -119,8 +122,8 @@ returns-3 c =
         room = room o;
         top-is = refl;
         ends-are = ap (set (ends z) (r₂ o)) is;
-        greatest-is = c .before .larger .ensures ∙ ap (max (z .args .s .greatest)) (sym (end-same (now (z .args .words)) (z .args .from) (i z) (z .pre .1 .0)));
-        deepest-is = c .deeper .ensures ∙ ap (λ (n : ℕ). max (z .args .s .deepest) (n + 1)) (sym nests);
+        greatest-is = greatest ∙ ap (max (z .args .s .greatest)) (sym (end-same (now (z .args .words)) (z .args .from) (i z) (z .pre .1 .0)));
+        deepest-is = deepest ∙ ap (λ (n : ℕ). max (z .args .s .deepest) (n + 1)) (sym nests);
         stack = stack-push (v z) (ends z) (i z) (r₂ o) (end (e₂ o)) (popped o) (room o) (high j) is;
       };
     }
