@@ -143,36 +143,6 @@ fn check_cells(
     0
 }
 
-// The check with room for the ends of few packed records: clearing a large array would take longer than the check of a small tree.
-fn check_few(cells: &[u32], words: &[u16], g: Setting, start: u32, work: &mut [u32]) -> usize
-    requires { ⌜ Given (now cells) (g .n) (length (now words)) (g .types) (g .last) (now work) ⌝ }
-    requires { ⌜ length (now words) ≤ 1024 ⌝ }
-    ensures { λ r. ⌜ r ≡ lowest-from (g .types) (now (words .entry)) (g .n) 1 0 (top-named start ∷ []) (cells-of (now (cells .entry))) ⌝ }
-{
-    let mut ends = [0u16; 256];
-    check_cells(cells, words, g, start, &mut ends, work)
-}
-
-// The same with room for as many open ends as 16-bit end indices allow.
-fn check_many(cells: &[u32], words: &[u16], g: Setting, start: u32, work: &mut [u32]) -> usize
-    requires { ⌜ Given (now cells) (g .n) (length (now words)) (g .types) (g .last) (now work) ⌝ }
-    ensures { λ r. ⌜ r ≡ lowest-from (g .types) (now (words .entry)) (g .n) 1 0 (top-named start ∷ []) (cells-of (now (cells .entry))) ⌝ }
-{
-    let mut ends = [0u16; 16383];
-    check_cells(cells, words, g, start, &mut ends, work)
-}
-
-// The number of the lowest cell that breaks a rule, 0 for none.
-fn lowest_cell(cells: &[u32], words: &[u16], g: Setting, start: u32, work: &mut [u32]) -> usize
-    requires { ⌜ Given (now cells) (g .n) (length (now words)) (g .types) (g .last) (now work) ⌝ }
-    ensures { λ r. ⌜ r ≡ lowest-from (g .types) (now (words .entry)) (g .n) 1 0 (top-named start ∷ []) (cells-of (now (cells .entry))) ⌝ }
-{
-    if words.len() <= 1024 {
-        return check_few(cells, words, g, start, work);
-    }
-    check_many(cells, words, g, start, work)
-}
-
 // 11: "work slice below 96 × items + 96 words of 32 bits".
 pub fn too_little_work(cells: &[u32], words: &[u16], work: &[u32]) -> bool
     ensures { λ r. ⌜ r ≡ ltb (length (now (work .entry))) (96 * items (now (cells .entry)) (now (words .entry)) + 96) ⌝ }
@@ -183,17 +153,18 @@ pub fn too_little_work(cells: &[u32], words: &[u16], work: &[u32]) -> bool
     (work.len() - 96) / 96 < cells.len() / CELL_WIDTH + words.len() / RECORD_WIDTH
 }
 
-// The tree check, after refusals 1 and 11: the lowest cell that breaks a cell rule; 0 where the slice is empty or no multiple of
-// 7. Absolute ends are counted from `start`.
-pub fn tree_check(
+// The tree check with room for open ends.
+fn check_tree(
     cells: &[u32],
     words: &[u16],
     types: u32,
     start: u32,
+    ends: &mut [u16],
     work: &mut [u32],
 ) -> words::Found
     requires { ⌜ types ≤ 65536 ⌝ }
     requires { ⌜ 96 * items (now cells) (now words) + 96 ≤ length (now work) ⌝ }
+    requires { ⌜ min (length (now words) / record-width) 16383 ≤ length (now ends) ⌝ }
     ensures { λ r. ⌜ place-found r ≡ bad-cell types start (now (cells .entry)) (now (words .entry)) ⌝ }
 {
     if cells.len() == 0 {
@@ -206,9 +177,56 @@ pub fn tree_check(
     let last = last_part(cells, n);
     chain_lengths(cells, n, work);
     let g = Setting { types, n, last };
-    let lowest = lowest_cell(cells, words, g, start, work);
+    let lowest = check_cells(cells, words, g, start, ends, work);
     if lowest == 0 {
         return words::Found::Nothing;
     }
     words::Found::At(lowest)
+}
+
+// The tree check of few packed words, for which a small array of ends is enough: clearing a large one would take longer than the check.
+fn check_few(cells: &[u32], words: &[u16], types: u32, start: u32, work: &mut [u32]) -> words::Found
+    requires { ⌜ types ≤ 65536 ⌝ }
+    requires { ⌜ 96 * items (now cells) (now words) + 96 ≤ length (now work) ⌝ }
+    requires { ⌜ length (now words) ≤ 1024 ⌝ }
+    ensures { λ r. ⌜ place-found r ≡ bad-cell types start (now (cells .entry)) (now (words .entry)) ⌝ }
+{
+    let mut ends = [0u16; 256];
+    check_tree(cells, words, types, start, &mut ends, work)
+}
+
+// The same with room for as many open ends as 16-bit end indices allow.
+fn check_many(
+    cells: &[u32],
+    words: &[u16],
+    types: u32,
+    start: u32,
+    work: &mut [u32],
+) -> words::Found
+    requires { ⌜ types ≤ 65536 ⌝ }
+    requires { ⌜ 96 * items (now cells) (now words) + 96 ≤ length (now work) ⌝ }
+    ensures { λ r. ⌜ place-found r ≡ bad-cell types start (now (cells .entry)) (now (words .entry)) ⌝ }
+{
+    let mut ends = [0u16; 16383];
+    check_tree(cells, words, types, start, &mut ends, work)
+}
+
+// The tree check, after refusals 1 and 11: the lowest cell that breaks a cell rule; 0 where the slice is empty or no multiple of
+// 7. Absolute ends are counted from `start`. The array of open ends is made before anything is tested: a function that returns before it
+// sets up so large a frame was seen to be compiled wrong.
+pub fn tree_check(
+    cells: &[u32],
+    words: &[u16],
+    types: u32,
+    start: u32,
+    work: &mut [u32],
+) -> words::Found
+    requires { ⌜ types ≤ 65536 ⌝ }
+    requires { ⌜ 96 * items (now cells) (now words) + 96 ≤ length (now work) ⌝ }
+    ensures { λ r. ⌜ place-found r ≡ bad-cell types start (now (cells .entry)) (now (words .entry)) ⌝ }
+{
+    if words.len() <= 1024 {
+        return check_few(cells, words, types, start, work);
+    }
+    check_many(cells, words, types, start, work)
 }
