@@ -31,14 +31,15 @@
  * Native stack
  *
  * What the calls take of it, the parameters included, was measured on x86-64 on the worst inputs known; it is not proved.
- * tests/c/stack measures it again, but for the 44,739,240 siblings and the sizes of threads, which were measured once:
+ * tests/c/stack measures it again:
  *
  *   hulwyth_build         1.6 MB  1,573,239 bytes where 16,383 records are packed, each in the next; no more can be
- *   the three part calls  40 KB   33,015 bytes for 3 records as for 16,383; 36,087 in the first one, if memset is bound only then
- *   hulwyth_balance       4 KB    2,647 bytes for 44,739,240 siblings, the most that are taken; 2,023 for 1,000,000
- *   the others            1 KB    471 bytes for 1,000,000 nested trees as for a packed part of 3 records
+ *   the part calls        40 KB   33,111 bytes for 3 records as for 16,383
+ *   the tree calls        40 KB   34,759 bytes for hulwyth_balance on 1,000,000 siblings, 33,239 for the others, with and without parts
+ *   hulwyth_check         1 KB
  *
- * A thread of 2 MiB was enough for each call, and one of 64 KiB for each but hulwyth_build.
+ * The first call of a part or tree takes 3 KB more, if memset is bound only then.
+ * The part calls and the tree calls hold the end indices of open packed records in an array of 16-bit words, 32,766 bytes.
  *
  *
  * Threads

@@ -12,8 +12,9 @@
 
 enum { MANY = 1000000, ROOM = 2 * MANY, FULL = 16383, STACK = 4 << 20, GUARD = 4096 };
 
-/* The bytes that the header names: of a build that packs deeply, of the part calls, of balancing, of the others. */
-enum { BUILD = 1600000, PART = 40000, BALANCE = 4000, OTHER = 1000 };
+/* The bytes that the header names: of a build that packs deeply, of a build that packs nothing, of the calls that check packed parts, of
+ * the list check. */
+enum { BUILD = 1600000, FLAT_BUILD = 4000, PARTS = 40000, LISTS = 1000 };
 
 static const uint64_t PATTERN = 0x5ca1ab1ec0ffee11;
 
@@ -210,26 +211,26 @@ static void measure_lists(void)
 {
     printf("a repeat record in a chain of %d\n", FULL);
     record_chain();
-    measure("check", check, OTHER);
+    measure("check", check, LISTS);
     measure("build", build, BUILD);
     printf("%d groups in one repeat record\n", MANY / 2 - 1);
     record_groups();
-    measure("check", check, OTHER);
-    measure("build", build, BALANCE);
+    measure("check", check, LISTS);
+    measure("build", build, FLAT_BUILD);
 }
 
 static void measure_trees(void)
 {
     printf("a chain of %d trees of no type\n", MANY);
     cell_chain(MANY);
-    measure("materialise", materialise, OTHER);
-    measure("balance", balance, BALANCE);
-    measure("list", list, OTHER);
+    measure("materialise", materialise, PARTS);
+    measure("balance", balance, PARTS);
+    measure("list", list, PARTS);
     printf("%d siblings\n", MANY);
     cell_row(MANY);
-    measure("materialise", materialise, OTHER);
-    measure("balance", balance, BALANCE);
-    measure("list", list, OTHER);
+    measure("materialise", materialise, PARTS);
+    measure("balance", balance, PARTS);
+    measure("list", list, PARTS);
 }
 
 /* A tree with a packed part of so many records, and the part by itself. */
@@ -237,12 +238,12 @@ static void measure_part(uint32_t count)
 {
     printf("a packed part of %u records, each in the one before\n", (unsigned)count);
     cell_part(count);
-    measure("materialise", materialise, OTHER);
-    measure("balance", balance, BALANCE);
-    measure("list", list, OTHER);
-    measure("part check", part_check, PART);
-    measure("part slice", part_slice, PART);
-    measure("part search", part_search, PART);
+    measure("materialise", materialise, PARTS);
+    measure("balance", balance, PARTS);
+    measure("list", list, PARTS);
+    measure("part check", part_check, PARTS);
+    measure("part slice", part_slice, PARTS);
+    measure("part search", part_search, PARTS);
 }
 
 int main(void)
