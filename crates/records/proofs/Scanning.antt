@@ -101,8 +101,9 @@ module _ {T S : ℕ} {ws w₀ w : List ℕ} {n i height : ℕ} {ordered : Bool} 
         room = rw ew (simp length-set h.scan.room);
         progress = p.0;
         stacked =
-            rw (now, ew, es)
-            (stacked_push n w f height h.scan.stacked i counted_here h.less h.scan.room (start_of ws i) (id_of ws i) (end_of ws i));
+            subst (λ (g : Forest). Stacked n w' g (height + 1)) (sym now)
+            (subst (λ (v : List ℕ). Stacked n v (add f (id_of ws i) (start_of ws i) (end_of ws i) empty) (height + 1)) (sym (ew ∙ ap (pushed n w height i) es))
+            (stacked_push n w f height h.scan.stacked i counted_here h.less h.scan.room (start_of ws i) (id_of ws i) (end_of ws i)));
         nested = λ t.
             let b = and_both ordered good (sym eo ∙ t) in
             rw now
@@ -166,8 +167,9 @@ module _ {T S : ℕ} {ws w₀ w : List ℕ} {n i height : ℕ} {ordered : Bool} 
               room = rw ew (simp length-set h.scan.room);
               progress = p.0;
               stacked =
-                  rw (p.1, ew, es)
-                  (stacked_grow n w f from level (m - 1) split held (omega (arith, counted_here, h.less)) (omega (arith, h.scan.room, h.less, height_few, level_low)) (id_of ws i) (start_of ws i) (end_of ws i));
+                  subst (λ (g : Forest). Stacked n w' g (level + 1)) (sym p.1)
+                  (subst (λ (v : List ℕ). Stacked n v (add (farther f (m - 1)) (id_of ws i) (start_of ws i) (end_of ws i) (nearest f (m - 1))) (level + 1)) (sym (ew ∙ ap (set w (n + level * 2 + 1)) es))
+                  (stacked_grow n w f from level (m - 1) split held (omega (arith, counted_here, h.less)) (omega (arith, h.scan.room, h.less, height_few, level_low)) (id_of ws i) (start_of ws i) (end_of ws i)));
               nested = λ t.
                   let b = and_both ordered both₁ (sym eo ∙ t) in
                   let c = and_both over good (sym e₂ ∙ b.1) in

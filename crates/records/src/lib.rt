@@ -1,5 +1,7 @@
 // Record lists: the check of document 01, a call for users; and functions that read one record, for other crates, which ask that it is
 // there.
+#![tactic(auto)]
+
 ghost use Rattle.std.specs.Prelude.{◌≡◌, true, cond, ◌&&◌, ◌+◌, ◌-◌, ◌*◌, ◌/◌, ◌%◌, ◌<◌, ◌≤◌, min, leb, length};
 ghost use Rattle.words.specs.Words.{id_of, start_of, end_of, last_of, record_width};
 ghost use Rattle.records.specs.Forest.{behind};

@@ -78,7 +78,7 @@ module _ (test : ℕ → Bool) (forward : Bool) (d : Option ℕ) where
 
     pub choose_later : test a ≡ true → forward ≡ false → choose test forward d (a ∷ l) ≡ choose test forward (some a) l
     unfolding choose
-    choose_later h f = rw (h, f)
+    choose_later h f = rw (h, f) (ap (λ (b : Bool). choose test b (some a) l) f)
 
     pub choose_miss : test a ≡ false → choose test forward d (a ∷ l) ≡ choose test forward d l
     unfolding choose

@@ -1,4 +1,6 @@
 // The search in a packed part, as find_buffer_child and check_side of the source do it.
+#![tactic(auto)]
+
 ghost use Rattle.std.specs.Prelude.{◌≡◌, ◌+◌, ◌≤◌, length};
 ghost use Rattle.words.specs.Words.{record_width};
 ghost use Rattle.words.specs.Answer.{place_found};

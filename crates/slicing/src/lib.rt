@@ -1,4 +1,6 @@
 // A slice of a packed part, as TreeBuffer::slice of the source makes it.
+#![tactic(auto)]
+
 ghost use Rattle.std.specs.Prelude.{◌≡◌, [], ◌∷◌, length};
 ghost use Rattle.words.specs.Answer.{place_found};
 ghost use Rattle.words.specs.Words.{front};

@@ -1,5 +1,7 @@
 // Internal.
 // What every other crate shares: a place that was found or not, words at wider types, a difference, and records of four words written.
+#![tactic(auto)]
+
 ghost use Rattle.std.specs.Prelude.{◌≡◌, [], ◌∷◌, ◌+◌, ◌-◌, ◌≤◌, length};
 ghost use Rattle.words.specs.Words.{Widened, put, record_width};
 

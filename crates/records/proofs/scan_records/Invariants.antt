@@ -1,0 +1,16 @@
+-- `records::scan_records` meets its contract: the invariant is `Scanning` before each record, and each way through the loop is
+-- one law of proofs/Scanning. Assumes nothing.
+use mathlib.Core.Path.{◌≡◌, refl, sym, ◌∙◌}
+use Prim.Native.Nat.{◌+◌, ◌-◌, ◌*◌, ◌/◌, ◌<◌}
+use native.Mathlib.Omega.{arith}
+use borrow.Author.Tests.{not-true, not-false}
+use borrow.Author.Rules.{rules}
+use lib.ListN.{length, get_or}
+use Rattle.records.proofs.Scanning as C
+use Rattle.records.proofs.scan_records.Given as goal
+
+abbrev pub invariant-loop-i : goal.invariant-loop-i
+invariant-loop-i l = C.Scanning l.types l.start l.records l.initial.work l.work l.n l.i l.height l.ordered
+
+abbrev pub decreases-loop-i : goal.decreases-loop-i
+decreases-loop-i l = l.n - l.i

@@ -1,0 +1,25 @@
+-- `slicing::starts_below` meets its contract. The invariant: the first such record from record i on is the first of all. Assumes nothing.
+use borrow.Author.Rules.{rules}
+use mathlib.Core.Bool.{Bool, cond}
+use mathlib.Core.Path.{◌≡◌, sym, ap, ◌∙◌}
+use mathlib.Core.Option.{some}
+use mathlib.Core.List.{List}
+use native.Mathlib.Omega.{arith}
+use borrow.Author.Tests.{le-ltb, lt-ltb}
+use Prim.Native.Nat.{ℕ, ◌≤◌, ◌<◌, ◌+◌, ◌-◌, ◌*◌, ◌/◌}
+use lib.Dec.{ltb}
+use lib.ListN.{length}
+use Rattle.words.specs.Words.{start_of}
+use Rattle.words.specs.First.{first_from}
+use Rattle.words.proofs.Firsts.{from_step, from_end}
+use Rattle.slicing.proofs.starts_below.Given as goal
+
+-- does record i start below the base?
+abbrev pub below : List ℕ → ℕ → ℕ → Bool
+below cut base i = ltb (start_of cut i) base
+
+abbrev pub invariant-loop-i : goal.invariant-loop-i
+invariant-loop-i l = (l.i ≤ l.records) × (first_from (below l.cut l.base) 0 l.records ≡ first_from (below l.cut l.base) l.i (l.records - l.i))
+
+abbrev pub decreases-loop-i : goal.decreases-loop-i
+decreases-loop-i l = l.records - l.i
