@@ -1,2 +1,1 @@
-pub mod OneWord
 pub mod Whole

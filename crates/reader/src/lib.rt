@@ -1,5 +1,7 @@
 // Internal: the build reads records through it.
 // The reader: a record list with a place in it, read from the last record back. A place is the number of records before it.
+#![tactic(auto)]
+
 ghost use Rattle.std.specs.Prelude.{◌≡◌, ◌-◌, ◌/◌, ◌<◌, length};
 ghost use Rattle.words.specs.Words.{id_of, start_of, end_of, last_of, record_width};
 ghost use Rattle.reader.specs.Before.{Readable, record_before};
@@ -7,7 +9,7 @@ ghost use Rattle.reader.specs.Before.{Readable, record_before};
 use records::{end_at, id_at, size_at, start_at};
 use words::RECORD_WIDTH;
 
-#[derive(Drop)]
+#[derive(Clone, Copy)]
 pub struct Reader<'a> {
     pub records: &'a [u32],
     pub at: usize,

@@ -1,6 +1,8 @@
 // Internal.
 // The build and the tree calls: definitions in specs/, their laws and the two-run theorem in proofs/. In code only the widths of a cell
 // and of a line, the places of a cell's words, and the function that writes a cell.
+#![tactic(auto)]
+
 ghost use Rattle.std.specs.Prelude.{◌≡◌, ◌+◌, ◌≤◌};
 ghost use lib.ListN.{length};
 ghost use Rattle.words.specs.Words.{put};

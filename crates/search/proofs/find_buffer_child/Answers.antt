@@ -19,7 +19,7 @@ use Prim.Native.Nat.{ℕ, ◌≤◌, ◌+◌, ◌-◌}
 use mathlib.Core.Bool.{Bool}
 use mathlib.Core.List.{List, ◌∷◌}
 use mathlib.Core.Path.{◌≡◌, sym, ◌∙◌, refl, ap}
-use Rattle.search.proofs.find_buffer_child.Goals.{In-loop-index, Start}
+use Rattle.search.proofs.find_buffer_child.Goals.{then-matches+else-direction-gt0, else-matches, In-loop-index, Start}
 use Rattle.search.proofs.find_buffer_child.Goals as goal
 
 -- at a turn: the end indices can be followed, and the record at the index can be read
@@ -91,10 +91,9 @@ loop-index-preserved c =
     let n = c.wide-index.result in
     let rest = way (w₁ (goal.at.loop-index-preserved c).In-loop-index) (f₁ (goal.at.loop-index-preserved c).In-loop-index - 1) n c.args.to in
     let next = ahead_next (w₁ (goal.at.loop-index-preserved c).In-loop-index) _ _ (linked_at (goal.at.loop-index-preserved c).In-loop-index) (a₁ (goal.at.loop-index-preserved c).In-loop-index) (f₁ (goal.at.loop-index-preserved c).In-loop-index) n c.loop-index-test.true c.loop-index.invariant.1 c.wide-index.ensures.same in
-    ⊎_elim
-    (λ u. (f₁ (goal.at.loop-index-preserved c).In-loop-index - 1, next, step_at (goal.at.loop-index-preserved c).In-loop-index n c.wide-index.ensures.same ∙ choose_later (test₁ (goal.at.loop-index-preserved c).In-loop-index) (forward₁ (goal.at.loop-index-preserved c).In-loop-index) _ (a₁ (goal.at.loop-index-preserved c).In-loop-index) rest (sym c.matches.ensures ∙ u.0.taken) u.1.left ∙ ap (λ (o : Found). choose (test₁ (goal.at.loop-index-preserved c).In-loop-index) (forward₁ (goal.at.loop-index-preserved c).In-loop-index) (place_found o) rest) (sym u.2)))
-    (λ v. (f₁ (goal.at.loop-index-preserved c).In-loop-index - 1, next, step_at (goal.at.loop-index-preserved c).In-loop-index n c.wide-index.ensures.same ∙ choose_miss (test₁ (goal.at.loop-index-preserved c).In-loop-index) (forward₁ (goal.at.loop-index-preserved c).In-loop-index) _ (a₁ (goal.at.loop-index-preserved c).In-loop-index) rest (sym c.matches.ensures ∙ v.0.left) ∙ ap (λ (o : Found). choose (test₁ (goal.at.loop-index-preserved c).In-loop-index) (forward₁ (goal.at.loop-index-preserved c).In-loop-index) (place_found o) rest) (sym v.1)))
-    c.if-matches.branch
+    elim c.if-matches.branch [
+    then-matches+else-direction-gt0 u ↦ (f₁ (goal.at.loop-index-preserved c).In-loop-index - 1, next, step_at (goal.at.loop-index-preserved c).In-loop-index n c.wide-index.ensures.same ∙ choose_later (test₁ (goal.at.loop-index-preserved c).In-loop-index) (forward₁ (goal.at.loop-index-preserved c).In-loop-index) _ (a₁ (goal.at.loop-index-preserved c).In-loop-index) rest (sym c.matches.ensures ∙ u.if-matches.true) u.if-direction-gt0.false ∙ ap (λ (o : Found). choose (test₁ (goal.at.loop-index-preserved c).In-loop-index) (forward₁ (goal.at.loop-index-preserved c).In-loop-index) (place_found o) rest) (sym u.found-is))
+    | else-matches v ↦ (f₁ (goal.at.loop-index-preserved c).In-loop-index - 1, next, step_at (goal.at.loop-index-preserved c).In-loop-index n c.wide-index.ensures.same ∙ choose_miss (test₁ (goal.at.loop-index-preserved c).In-loop-index) (forward₁ (goal.at.loop-index-preserved c).In-loop-index) _ (a₁ (goal.at.loop-index-preserved c).In-loop-index) rest (sym c.matches.ensures ∙ v.if-matches.false) ∙ ap (λ (o : Found). choose (test₁ (goal.at.loop-index-preserved c).In-loop-index) (forward₁ (goal.at.loop-index-preserved c).In-loop-index) (place_found o) rest) (sym v.found-is)) ]
 
 pub returns : goal.returns
 returns c =
