@@ -1,5 +1,7 @@
 // Internal, for the build.
 // The place of a reader in a record list: which items stand before it (specs/), their laws (proofs/), and what records stand under.
+#![tactic(auto)]
+
 ghost use Rattle.std.specs.Prelude.{◌≡◌};
 ghost use Rattle.tree.specs.Items.{same, repeats};
 ghost use Rattle.cursor.specs.Own.{own_of};

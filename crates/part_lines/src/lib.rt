@@ -1,6 +1,8 @@
 // Internal, for listing.
 // The lines of a packed part. Its records are read once, from the first on; the end indices of the listed records around the present one
 // stand in the work slice.
+#![tactic(auto)]
+
 ghost use Rattle.std.specs.Prelude.{◌≡◌, [], ◌∷◌, ◌+◌, ◌*◌, ◌≤◌, length, take};
 ghost use Rattle.words.specs.Words.{put, record_width, id_of, start_of, end_of};
 ghost use Rattle.tree.specs.Listing.{line_width};

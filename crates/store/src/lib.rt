@@ -1,6 +1,8 @@
 // Internal, for the build and the balance call.
 // A store of trees in the work slice. A node is written once and never changed, so what its address denotes stays true while
 // the store grows; one pass writes a list of trees out as preorder cells and packed words.
+#![tactic(auto)]
+
 ghost use Rattle.std.specs.Prelude.{◌≡◌, ℕ, max, ◌+◌, ◌-◌, ◌*◌, ◌≤◌, ◌<◌, [], ◌∷◌, eqb, cond};
 ghost use lib.ListN.{length, get_or, drop};
 ghost use Rattle.std.proofs.Math.Seq.{paste};
