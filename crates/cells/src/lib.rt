@@ -1,6 +1,8 @@
 // Internal, for the calls that take a tree.
 // The tree check: the cell rules of document 01 (refusal 15) and the lowest cell that breaks one. Two passes over the cells and no
 // recursion: chain lengths from the last cell back, then the rules from cell 1 on, with the open links in the work slice.
+#![tactic(auto)]
+
 mod broken;
 mod linking;
 mod parts;

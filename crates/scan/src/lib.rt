@@ -1,6 +1,8 @@
 // Internal, for the build.
 // The scan for a run of sibling spans that packs into one part. Counts of the repeat records before each place give a run's
 // words at once, and a memo of the walk lets the next scan under the same parent go on where this one ended.
+#![tactic(auto)]
+
 ghost use Rattle.std.specs.Prelude.{◌≡◌, cond, ℕ, ◌-◌, ◌*◌, ◌/◌, ◌<◌, ◌≤◌, min, leb, length};
 ghost use Rattle.words.specs.Words.{id_of, record_width};
 ghost use Rattle.tree.specs.Items.{Items, same};
