@@ -1,7 +1,6 @@
 -- `records::judge` meets its contract: the invariant is `Judging` where `left` records are still to be judged, from the laws of
 -- proofs/Judging. Assumes nothing.
 use native.Mathlib.Omega.{arith}
-use borrow.Author.Rules.{rules}
 use Rattle.records.proofs.Judging as J
 use Rattle.records.proofs.judge.Goals.{After-span_at-span}
 use Rattle.records.proofs.judge.Goals as goal
@@ -27,7 +26,7 @@ pub overflow_sub-p : goal.overflow_sub-p
 overflow_sub-p c = (child (goal.at.overflow_sub-p c).After-span_at-span).fits
 
 pub behind_at-after-requires : goal.behind_at-after-requires
-behind_at-after-requires c =  record { spelt = (child (goal.at.behind_at-after-requires c).After-span_at-span).earlier; left_le_p = omega (arith, c.loop-left.invariant.few) }
+behind_at-after-requires c = record { spelt = (child (goal.at.behind_at-after-requires c).After-span_at-span).earlier; left_le_p = omega (arith, c.loop-left.invariant.few) }
 
 pub stands-good-requires : goal.stands-good-requires
 stands-good-requires c = omega (arith, c.back-child.ensures, c.loop-left.invariant.few, c.loop-left.invariant.sound.within)
