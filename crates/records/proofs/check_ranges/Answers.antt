@@ -22,14 +22,14 @@ overflow_sub-k c = (L.inside c.loop-i.invariant c.loop-i-test.true c.span_at-k.e
 
 pub judge-low-requires : goal.judge-low-requires
 judge-low-requires c =
-     record { spelt = c.loop-i.invariant.progress.sound; k_le_i = (L.inside c.loop-i.invariant c.loop-i-test.true c.span_at-k.ensures).few; k_value = L.filled c.loop-i.invariant c.loop-i-test.true c.span_at-k.ensures }
+    record { spelt = c.loop-i.invariant.progress.sound; k_le_i = (L.inside c.loop-i.invariant c.loop-i-test.true c.span_at-k.ensures).few; k_value = L.filled c.loop-i.invariant c.loop-i-test.true c.span_at-k.ensures }
 
 pub loop-i-preserved : goal.loop-i-preserved
 loop-i-preserved c =
     L.lowest_next c.loop-i.invariant c.loop-i-test.true c.span_at-k.ensures refl c.start_at.ensures c.end_at.ensures c.judge-low.ensures
 
 pub judge-lowest-requires : goal.judge-lowest-requires
-judge-lowest-requires c =  record { spelt = (all (goal.at.judge-lowest-requires c).After-loop-i).progress.sound; k_le_i = omega arith; k_value = L.all_fill (all (goal.at.judge-lowest-requires c).After-loop-i) }
+judge-lowest-requires c = record { spelt = (all (goal.at.judge-lowest-requires c).After-loop-i).progress.sound; k_le_i = omega arith; k_value = L.all_fill (all (goal.at.judge-lowest-requires c).After-loop-i) }
 
 pub returns-then-lowest-n : goal.returns-then-lowest-n
 returns-then-lowest-n c = L.lowest_refused (all (goal.at.returns-then-lowest-n c).After-loop-i) _ c.judge-lowest.ensures c.if-lowest-n.true

@@ -27,7 +27,7 @@ pub overflow_sub-p : goal.overflow_sub-p
 overflow_sub-p c = (child (goal.at.overflow_sub-p c).After-span_at-span).fits
 
 pub behind_at-after-requires : goal.behind_at-after-requires
-behind_at-after-requires c =  record { spelt = (child (goal.at.behind_at-after-requires c).After-span_at-span).earlier; left_le_p = omega (arith, c.loop-left.invariant.few) }
+behind_at-after-requires c = record { spelt = (child (goal.at.behind_at-after-requires c).After-span_at-span).earlier; left_le_p = omega (arith, c.loop-left.invariant.few) }
 
 pub stands-good-requires : goal.stands-good-requires
 stands-good-requires c = omega (arith, c.back-child.ensures, c.loop-left.invariant.few, c.loop-left.invariant.sound.within)

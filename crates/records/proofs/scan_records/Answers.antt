@@ -43,10 +43,10 @@ pub returns-then-fault-ne0 : goal.returns-then-fault-ne0
 returns-then-fault-ne0 c = C.scan_own c.loop-i.invariant c.loop-i-test.true c.own_fault-fault.ensures c.if-fault-ne0.true
 
 pub follows-requires : goal.follows-requires
-follows-requires c =  record { record_width_in_bounds = C.room_here (here (goal.at.follows-requires c).Else-fault-ne0); spelt = c.loop-i.invariant.progress.sound }
+follows-requires c = record { record_width_in_bounds = C.room_here (here (goal.at.follows-requires c).Else-fault-ne0); spelt = c.loop-i.invariant.progress.sound }
 
 pub push-requires : goal.push-requires
-push-requires c =  record { n_bound = c.requires.record_width_len_bound; from_lt_n = c.loop-i-test.true; height_le_from = C.height_few (here (goal.at.push-requires c).Else-fault-ne0); n_in_bounds = c.loop-i.invariant.room }
+push-requires c = record { n_bound = c.requires.record_width_len_bound; from_lt_n = c.loop-i-test.true; height_le_from = C.height_few (here (goal.at.push-requires c).Else-fault-ne0); n_in_bounds = c.loop-i.invariant.room }
 
 pub overflow_add-height : goal.overflow_add-height
 overflow_add-height c = omega (arith, C.height_few (here (goal.at.overflow_add-height c).Else-fault-ne0), c.requires.record_width_len_bound)
@@ -93,11 +93,11 @@ pub bounds-work-n : goal.bounds-work-n
 bounds-work-n c = omega (arith, low (goal.at.bounds-work-n c).Else-not-begins, C.height_few (here (goal.at.bounds-work-n c).Else-fault-ne0), c.loop-i-test.true, c.loop-i.invariant.room)
 
 pub covers-held-requires : goal.covers-held-requires
-covers-held-requires c =  record { record_width_in_bounds = C.room_here (here (goal.at.covers-held-requires c).Else-fault-ne0); i_nonzero = omega (arith, C.begins_before (here (goal.at.covers-held-requires c).Else-fault-ne0) (inside (goal.at.covers-held-requires c).After-span_at)) }
+covers-held-requires c = record { record_width_in_bounds = C.room_here (here (goal.at.covers-held-requires c).Else-fault-ne0); i_nonzero = omega (arith, C.begins_before (here (goal.at.covers-held-requires c).Else-fault-ne0) (inside (goal.at.covers-held-requires c).After-span_at)) }
 
 pub follows-requires-in-loop-i : goal.follows-requires-in-loop-i
 follows-requires-in-loop-i c =
-     record { record_width_in_bounds = C.room_here (here (goal.at.follows-requires-in-loop-i c).Else-fault-ne0); spelt = C.spelt_before (here (goal.at.follows-requires-in-loop-i c).Else-fault-ne0) (inside (goal.at.follows-requires-in-loop-i c).After-span_at) _ c.begins.ensures (c.if-not-begins.false) }
+    record { record_width_in_bounds = C.room_here (here (goal.at.follows-requires-in-loop-i c).Else-fault-ne0); spelt = C.spelt_before (here (goal.at.follows-requires-in-loop-i c).Else-fault-ne0) (inside (goal.at.follows-requires-in-loop-i c).After-span_at) _ c.begins.ensures (c.if-not-begins.false) }
 
 pub overflow_mul-work : goal.overflow_mul-work
 overflow_mul-work c = omega (arith, small (goal.at.overflow_mul-work c).Else-not-begins, c.requires.record_width_len_bound)
