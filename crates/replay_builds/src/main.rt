@@ -18,7 +18,7 @@ const PACKED_BEFORE: u16 = 7;
 const HEAD: usize = 9;
 
 fn print_number(number: u64) {
-    io::print_decimal(libc::STDOUT_FILENO, number);
+    io::print_decimal(1, number);
 }
 
 // A word, with a space before it.
@@ -200,7 +200,7 @@ fn work_room() -> [u32; 5856]
 
 fn main() {
     let mut input = text::input_room();
-    let count = io::read_full(libc::STDIN_FILENO, &mut input);
+    let count = io::read_full(0, &mut input);
     let mut given = [0u64; 249];
     let mut numbers = [0u32; 249];
     let mut work = work_room();

@@ -23,7 +23,7 @@ const SLICE_HEAD: usize = 7;
 const SEARCH_HEAD: usize = 9;
 
 fn print_number(number: u64) {
-    io::print_decimal(libc::STDOUT_FILENO, number);
+    io::print_decimal(1, number);
 }
 
 // Each word, with a space before it.
@@ -242,7 +242,7 @@ fn replay(text: &[u8], numbers: &mut [u64], words: &mut [u16], out: &mut [u16]) 
 
 fn main() {
     let mut input = text::input_room();
-    let count = io::read_full(libc::STDIN_FILENO, &mut input);
+    let count = io::read_full(0, &mut input);
     let mut numbers = [0u64; 521];
     let mut words = [0u16; 512];
     let mut out = [0u16; 512];
