@@ -5,6 +5,8 @@
 //   3 T from to direction position base side n words       a search
 // where T is the number of types and n that of the words. n and room are at most 512, a word has 16 bits, direction and
 // side 8 with a sign, and every other number 32. The whole text is at most 1 MiB. Any other line is a bad one.
+#![tactic(auto)]
+
 ghost use Rattle.std.specs.Prelude.{◌≤◌, length};
 
 use part::Checked;

@@ -1,4 +1,6 @@
 // The three calls on packed parts, shown on the names of a small trade message.
+#![tactic(auto)]
+
 use part::Checked;
 use search::Searched;
 use slicing::Sliced;
