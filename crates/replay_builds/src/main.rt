@@ -5,6 +5,8 @@
 // length is given, room the number of words that the output for cells has, packed that of the output for packed words, which
 // all hold 7 before. There are at most 240 words of records, room is at most 900 and packed at most 300; every number has 32
 // bits. The whole text is at most 1 MiB. Any other line is a bad one.
+#![tactic(auto)]
+
 ghost use Rattle.std.specs.Prelude.{◌≡◌, ◌≤◌, length};
 
 use build::{Built, Given};

@@ -7,6 +7,8 @@
 // has a second output of m packed words.
 // n is at most 700, m at most 400 and room at most 1,400; a packed word has 16 bits and every other number 32. The whole text
 // is at most 1 MiB. Any other line is a bad one.
+#![tactic(auto)]
+
 ghost use Rattle.std.specs.Prelude.{◌≡◌, ◌≤◌, length};
 
 use balance::Balanced;
