@@ -37,7 +37,7 @@ const TWELVE: usize = 12 * CELL_WIDTH;
 const TWENTY: usize = 20 * CELL_WIDTH;
 
 // The numbers that a list is read with: T, F, b and S.
-#[derive(Drop)]
+#[derive(Clone, Copy)]
 struct Numbers {
     types: u32,
     first_repeat: u32,
