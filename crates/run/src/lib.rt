@@ -1,4 +1,6 @@
 // The run: a build, then listing on the cells and words it wrote.
+#![tactic(auto)]
+
 ghost use Rattle.std.specs.Prelude.{◌≡◌, [], ◌∷◌, length};
 ghost use Rattle.build.specs.Answer.{given_length};
 ghost use Rattle.run.specs.Running.{one_work, run_call};
