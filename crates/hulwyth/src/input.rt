@@ -1,7 +1,18 @@
 // The text that the program reads: from the file that an argument names, or from standard input.
 ghost use Rattle.std.specs.Prelude.{◌≤◌, length};
 
-use crate::output::{least, put};
+use crate::output::{Page, put};
+use std::env::Env;
+use std::fs::File;
+use std::io::{Read, Stdin};
+
+// Where a text comes from: standard input, a file, or nothing that could be opened.
+#[derive(Drop)]
+pub enum Source {
+    Input(Stdin),
+    File(File),
+    Nothing,
+}
 
 // What was read: how many bytes, and whether a read failed before the end of the text.
 #[derive(Drop)]
@@ -11,20 +22,26 @@ pub struct Input {
 }
 
 // Reads to the end of the text, or until the room is full.
-pub fn read_all(from: i32, room: &mut [u8]) -> Input
+pub fn read_all<R: Read>(from: &mut R, room: &mut [u8]) -> Input
     ensures { result.count ≤ length room.new }
 {
     let mut count: usize = 0;
     while count < room.len() {
-        let got = libc::read(from, &mut room[count..]);
-        let more = least(io::count(got, room), room.len() - count);
-        if more == 0 {
-            return Input {
-                count: count,
-                failed: got < 0,
-            };
+        match from.read(&mut room[count..]) {
+            Ok(0) => {
+                return Input {
+                    count: count,
+                    failed: false,
+                };
+            }
+            Ok(more) => count += more,
+            Err(_) => {
+                return Input {
+                    count: count,
+                    failed: true,
+                };
+            }
         }
-        count += more;
     }
     Input {
         count: count,
@@ -33,7 +50,7 @@ pub fn read_all(from: i32, room: &mut [u8]) -> Input
 }
 
 // Names what the text comes from, behind what is said of it.
-fn put_source(page: &mut [u8], said: &[u8], path: &[u8]) {
+fn put_source(page: &mut Page, said: &[u8], path: &[u8]) {
     put(page, said);
     if check::same(path, b"-") {
         put(page, b"standard input\n");
@@ -44,37 +61,55 @@ fn put_source(page: &mut [u8], said: &[u8], path: &[u8]) {
     put(page, b"\n");
 }
 
+// Puts the text of argument i at the start of `word`, and answers its length: 0 where it is none that fits.
+pub fn argument(rt: HostRuntime, i: usize, word: &mut [u8]) -> usize
+    ensures { result ≤ length word.new }
+{
+    match rt.arg(i, word) {
+        Ok(count) => count,
+        Err(_) => 0,
+    }
+}
+
 // Says that the text of argument `file`, or of standard input where it is 0, could not be read to its end.
-pub fn print_unread(page: &mut [u8], file: usize) {
+pub fn print_unread(rt: HostRuntime, page: &mut Page, file: usize) {
     if file == 0 {
         put_source(page, b"cannot read ", b"-");
         return;
     }
     let mut path = io::buffer();
-    let count = os::arg(file, &mut path);
+    let count = argument(rt, file, &mut path);
     put_source(page, b"cannot read ", &path[..count]);
 }
 
-// The descriptor of a path, where - is standard input; -1, after a message, where it cannot be opened.
-fn opened(page: &mut [u8], path: &[u8]) -> i32 {
-    if check::same(path, b"-") {
-        return libc::STDIN_FILENO;
+// The file of a path, where it can be opened. The path of a file is text in UTF-8.
+fn file_of(rt: HostRuntime, path: &[u8]) -> Option<File> {
+    match str::from_utf8(path) {
+        Ok(name) => File::open(&rt, name).ok(),
+        Err(_) => None,
     }
-    let descriptor = os::open_read(path);
-    if descriptor < 0 {
-        put_source(page, b"cannot open ", path);
-        return -1;
-    }
-    descriptor
 }
 
-// The descriptor of what argument `file` names, or of standard input where it is 0; -1, after a message, where it cannot
-// be opened.
-pub fn descriptor(page: &mut [u8], file: usize) -> i32 {
+// The source that a path names, where - is standard input; none, after a message, where it cannot be opened.
+fn opened(rt: HostRuntime, page: &mut Page, path: &[u8]) -> Source {
+    if check::same(path, b"-") {
+        return Source::Input(rt.stdin());
+    }
+    match file_of(rt, path) {
+        Some(file) => Source::File(file),
+        None => {
+            put_source(page, b"cannot open ", path);
+            Source::Nothing
+        }
+    }
+}
+
+// The source that argument `file` names, or standard input where it is 0; none, after a message, where it cannot be opened.
+pub fn source_of(rt: HostRuntime, page: &mut Page, file: usize) -> Source {
     if file == 0 {
-        return libc::STDIN_FILENO;
+        return Source::Input(rt.stdin());
     }
     let mut path = io::buffer();
-    let count = os::arg(file, &mut path);
-    opened(page, &path[..count])
+    let count = argument(rt, file, &mut path);
+    opened(rt, page, &path[..count])
 }

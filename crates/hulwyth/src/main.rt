@@ -1,4 +1,8 @@
 // The command line: reads a record list as a text (docs/FORMAT.md), builds its tree and shows it.
+#![tactic(auto)]
+
+ghost use Rattle.std.specs.Prelude.{◌≤◌, length};
+
 mod building;
 mod input;
 mod line;
@@ -15,20 +19,41 @@ mod settings;
 mod showing;
 mod tables;
 
+use input::{Input, Source};
 use options::Options;
-use output::put;
+use output::{Page, put};
+
+// Reads the text of a source, as far as the room goes.
+fn read_source(source: Source, room: &mut [u8]) -> Input
+    ensures { result.count ≤ length room.new }
+{
+    match source {
+        Source::Input(from) => {
+            let mut input = from;
+            input::read_all(&mut input, room)
+        }
+        Source::File(from) => {
+            let mut file = from;
+            input::read_all(&mut file, room)
+        }
+        Source::Nothing => Input {
+            count: 0,
+            failed: true,
+        },
+    }
+}
 
 // Reads the text that is asked for, and shows what is made of it or says why it cannot be read.
-fn read(page: &mut [u8], options: Options) {
-    let from = input::descriptor(page, options.file);
-    if from < 0 {
+fn read(rt: HostRuntime, page: &mut Page, options: Options) {
+    let from = input::source_of(rt, page, options.file);
+    if let Source::Nothing = from {
         return;
     }
     let mut room = text::input_room();
-    let text = input::read_all(from, &mut room);
+    let text = read_source(from, &mut room);
     let count = text.count;
     if text.failed {
-        input::print_unread(page, options.file);
+        input::print_unread(rt, page, options.file);
         return;
     }
     if count == room.len() {
@@ -42,20 +67,21 @@ fn read(page: &mut [u8], options: Options) {
 }
 
 // Does what the arguments ask for, or says which of them means nothing.
-fn answer(page: &mut [u8], options: Options) {
+fn answer(rt: HostRuntime, page: &mut Page, options: Options) {
     if options.help {
         messages::print_help(page);
         return;
     }
     if options.bad != 0 {
-        options::print_bad(page, options.bad);
+        options::print_bad(rt, page, options.bad);
         return;
     }
-    read(page, options);
+    read(rt, page, options);
 }
 
-fn main() {
-    let mut page = io::large_buffer();
-    answer(&mut page, options::asked());
+fn main(rt: HostRuntime) -> std::io::Result<()> {
+    let mut page = output::empty_page(rt)?;
+    answer(rt, &mut page, options::asked(rt));
     output::flush(&mut page);
+    Ok(())
 }

@@ -1,8 +1,9 @@
 // The arguments that the program is started with.
-use crate::output::{put, put_number};
+use crate::output::{Page, put, put_number};
+use std::env::{Env, FillError};
 
 // What they ask for.
-#[derive(Drop)]
+#[derive(Clone, Copy)]
 pub struct Options {
     // The usage, and nothing else.
     pub help: bool,
@@ -67,18 +68,18 @@ fn with_word(so_far: Options, word: &[u8], i: usize) -> Options {
     with_file(so_far, i)
 }
 
-// What argument i adds. One that no path has the length of means nothing.
-fn with_argument(so_far: Options, i: usize) -> Options {
+// What argument i adds; nothing where there are fewer. One that no path has the length of means nothing.
+fn with_argument(rt: HostRuntime, so_far: Options, i: usize) -> Option<Options> {
     let mut word = io::buffer();
-    let count = os::arg(i, &mut word);
-    if os::errno() != 0 {
-        return with_bad(so_far, i);
+    match rt.arg(i, &mut word) {
+        Ok(count) => Some(with_word(so_far, &word[..count], i)),
+        Err(FillError::TooLong) => Some(with_bad(so_far, i)),
+        Err(FillError::NotPresent) => None,
     }
-    with_word(so_far, &word[..count], i)
 }
 
 // What all arguments ask for.
-pub fn asked() -> Options {
+pub fn asked(rt: HostRuntime) -> Options {
     let mut options = Options {
         help: false,
         cells: false,
@@ -86,17 +87,17 @@ pub fn asked() -> Options {
         file: 0,
         bad: 0,
     };
-    let count = os::arg_count();
-    let mut i: usize = 1;
-    while i < count {
-        options = with_argument(options, i);
-        i += 1;
+    for i in 1..usize::MAX {
+        match with_argument(rt, options, i) {
+            Some(more) => options = more,
+            None => break,
+        }
     }
     options
 }
 
 // Says what is wrong with a word that is no argument.
-fn print_wrong(page: &mut [u8], word: &[u8]) {
+fn print_wrong(page: &mut Page, word: &[u8]) {
     if is_option(word) {
         put(page, b"unknown option ");
         return;
@@ -105,15 +106,17 @@ fn print_wrong(page: &mut [u8], word: &[u8]) {
 }
 
 // Says why argument i means nothing.
-pub fn print_bad(page: &mut [u8], i: usize) {
+pub fn print_bad(rt: HostRuntime, page: &mut Page, i: usize) {
     let mut word = io::buffer();
-    let count = os::arg(i, &mut word);
-    if os::errno() != 0 {
-        put_number(page, b"argument ", i as u64);
-        put(page, b" is longer than any path\n");
-        return;
+    match rt.arg(i, &mut word) {
+        Ok(count) => {
+            print_wrong(page, &word[..count]);
+            put(page, &word[..count]);
+            put(page, b"; hulwyth --help shows what can be given\n");
+        }
+        Err(_) => {
+            put_number(page, b"argument ", i as u64);
+            put(page, b" is longer than any path\n");
+        }
     }
-    print_wrong(page, &word[..count]);
-    put(page, &word[..count]);
-    put(page, b"; hulwyth --help shows what can be given\n");
 }

@@ -1,7 +1,7 @@
 // What can be wrong with the text of a list.
 
 // What is wrong with a line.
-#[derive(Drop)]
+#[derive(Clone, Copy)]
 pub enum Problem {
     Nothing,
     // A number is missing, is none, or is above 32 bits.

@@ -69,7 +69,7 @@ pub fn read_setting(line: &[u8], from: usize, which: usize, settings: &mut [u64]
 }
 
 // The numbers that are given with a list.
-#[derive(Drop)]
+#[derive(Clone, Copy)]
 pub struct Numbers {
     pub types: u32,
     pub first_repeat: u32,

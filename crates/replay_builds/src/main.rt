@@ -5,6 +5,8 @@
 // length is given, room the number of words that the output for cells has, packed that of the output for packed words, which
 // all hold 7 before. There are at most 240 words of records, room is at most 900 and packed at most 300; every number has 32
 // bits. The whole text is at most 1 MiB. Any other line is a bad one.
+#![tactic(auto)]
+
 ghost use Rattle.std.specs.Prelude.{◌≡◌, ◌≤◌, length};
 
 use build::{Built, Given};
@@ -18,7 +20,7 @@ const PACKED_BEFORE: u16 = 7;
 const HEAD: usize = 9;
 
 fn print_number(number: u64) {
-    io::print_decimal(libc::STDOUT_FILENO, number);
+    io::print_decimal(1, number);
 }
 
 // A word, with a space before it.
@@ -200,7 +202,7 @@ fn work_room() -> [u32; 5856]
 
 fn main() {
     let mut input = text::input_room();
-    let count = io::read_full(libc::STDIN_FILENO, &mut input);
+    let count = io::read_full(0, &mut input);
     let mut given = [0u64; 249];
     let mut numbers = [0u32; 249];
     let mut work = work_room();

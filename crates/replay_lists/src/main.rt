@@ -3,6 +3,8 @@
 //   T F b S top n words
 // where T is the number of types, F the first repeat id, b the length bound, S the build start and n the number of the
 // words. n is at most 512, and every number has 32 bits. The whole text is at most 1 MiB. Any other line is a bad one.
+#![tactic(auto)]
+
 ghost use Rattle.std.specs.Prelude.{◌≡◌, ◌≤◌, length};
 
 use records::Checked;
@@ -88,7 +90,7 @@ fn work_room() -> [u32; 12384]
 
 fn main() {
     let mut input = text::input_room();
-    let count = io::read_full(libc::STDIN_FILENO, &mut input);
+    let count = io::read_full(0, &mut input);
     let mut numbers = [0u64; 518];
     let mut words = [0u32; 518];
     let mut work = work_room();

@@ -5,6 +5,8 @@
 //   3 T from to direction position base side n words       a search
 // where T is the number of types and n that of the words. n and room are at most 512, a word has 16 bits, direction and
 // side 8 with a sign, and every other number 32. The whole text is at most 1 MiB. Any other line is a bad one.
+#![tactic(auto)]
+
 ghost use Rattle.std.specs.Prelude.{◌≤◌, length};
 
 use part::Checked;
@@ -23,7 +25,7 @@ const SLICE_HEAD: usize = 7;
 const SEARCH_HEAD: usize = 9;
 
 fn print_number(number: u64) {
-    io::print_decimal(libc::STDOUT_FILENO, number);
+    io::print_decimal(1, number);
 }
 
 // Each word, with a space before it.
@@ -242,7 +244,7 @@ fn replay(text: &[u8], numbers: &mut [u64], words: &mut [u16], out: &mut [u16]) 
 
 fn main() {
     let mut input = text::input_room();
-    let count = io::read_full(libc::STDIN_FILENO, &mut input);
+    let count = io::read_full(0, &mut input);
     let mut numbers = [0u64; 521];
     let mut words = [0u16; 512];
     let mut out = [0u16; 512];

@@ -7,6 +7,8 @@
 // has a second output of m packed words.
 // n is at most 700, m at most 400 and room at most 1,400; a packed word has 16 bits and every other number 32. The whole text
 // is at most 1 MiB. Any other line is a bad one.
+#![tactic(auto)]
+
 ghost use Rattle.std.specs.Prelude.{◌≡◌, ◌≤◌, length};
 
 use balance::Balanced;
@@ -22,7 +24,7 @@ const PACKED_BEFORE: u16 = 7;
 const HEAD: usize = 7;
 
 fn print_number(number: u64) {
-    io::print_decimal(libc::STDOUT_FILENO, number);
+    io::print_decimal(1, number);
 }
 
 // A word, with a space before it.
@@ -335,7 +337,7 @@ fn work_room() -> [u32; 19296]
 
 fn main() {
     let mut input = text::input_room();
-    let count = io::read_full(libc::STDIN_FILENO, &mut input);
+    let count = io::read_full(0, &mut input);
     let mut given = [0u64; 1107];
     let mut numbers = [0u32; 707];
     let mut words = [0u16; 400];

@@ -1,5 +1,7 @@
 // Runs document 01's examples of the build: each line says what was asked and what came. Behind an answer that is not the one
 // that the document gives stands WRONG. Cells are shown seven words to a line, packed records and listed lines four.
+#![tactic(auto)]
+
 mod lists;
 mod show;
 
@@ -35,7 +37,7 @@ const TWELVE: usize = 12 * CELL_WIDTH;
 const TWENTY: usize = 20 * CELL_WIDTH;
 
 // The numbers that a list is read with: T, F, b and S.
-#[derive(Drop)]
+#[derive(Clone, Copy)]
 struct Numbers {
     types: u32,
     first_repeat: u32,
@@ -44,7 +46,7 @@ struct Numbers {
 }
 
 // An answer with document 01's number, 0 where the call is accepted.
-#[derive(Drop)]
+#[derive(Clone, Copy)]
 struct Answer {
     number: u32,
     place: usize,

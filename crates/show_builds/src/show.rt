@@ -5,11 +5,11 @@ use tree::{CELL_WIDTH, LINE_WIDTH};
 use words::RECORD_WIDTH;
 
 pub fn print(text: &[u8]) {
-    io::write_all(libc::STDOUT_FILENO, text);
+    io::write_all(1, text);
 }
 
 pub fn print_number(number: u64) {
-    io::print_decimal(libc::STDOUT_FILENO, number);
+    io::print_decimal(1, number);
 }
 
 pub fn wide(word: u32) -> u64 {

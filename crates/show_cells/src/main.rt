@@ -1,5 +1,7 @@
 // Runs the tree check on cells of document 01's examples and on damaged trees, one or more for each rule; writes the place, or
 // "none", or "11" where the work slice is too small.
+#![tactic(auto)]
+
 ghost use Rattle.std.specs.Prelude.{◌≡◌, length};
 
 use tree::CELL_WIDTH;

@@ -1,4 +1,6 @@
 // Runs the check on document 01's examples of record lists and on one list for each refusal; writes number, place and count.
+#![tactic(auto)]
+
 use records::Checked;
 
 fn show(number: u32, place: u32, count: u32) {

@@ -1,4 +1,6 @@
 // The three calls on packed parts, shown on the names of a small trade message.
+#![tactic(auto)]
+
 use part::Checked;
 use search::Searched;
 use slicing::Sliced;
@@ -7,13 +9,13 @@ use slicing::Sliced;
 const TYPES: u32 = 4;
 
 fn print(text: &[u8]) {
-    io::write_all(libc::STDOUT_FILENO, text);
+    io::write_all(1, text);
 }
 
 // A text and a number behind it.
 fn print_number(text: &[u8], number: u64) {
     print(text);
-    io::print_decimal(libc::STDOUT_FILENO, number);
+    io::print_decimal(1, number);
 }
 
 // A line for each record of four words.

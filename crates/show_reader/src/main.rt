@@ -1,4 +1,6 @@
 // Reads document 01's P, and the list of its groups, from the last record back; writes the words of each record and the place before it.
+#![tactic(auto)]
+
 use reader::Record;
 
 fn show_number(n: u64) {

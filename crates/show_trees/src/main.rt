@@ -1,6 +1,8 @@
 // Lists the trees of document 01's records P with b 1,024, 5 and 1, each straight and after materialising, and trees that are refused; then
 // trees at the limits of listing; then trees with nodes of id 0, balanced on a set without none and on one whose place 0 is none. Each
 // line of a listing is depth, id, start and end.
+#![tactic(auto)]
+
 mod limits;
 mod sets;
 mod show;

@@ -7,13 +7,13 @@ use materialize::Materialized;
 use tree::{CELL_WIDTH, LINE_WIDTH};
 
 pub fn print(text: &[u8]) {
-    io::write_all(libc::STDOUT_FILENO, text);
+    io::write_all(1, text);
 }
 
 // A text and a number behind it.
 fn print_number(text: &[u8], number: u64) {
     print(text);
-    io::print_decimal(libc::STDOUT_FILENO, number);
+    io::print_decimal(1, number);
 }
 
 fn print_refusal(number: u32, place: usize) {

@@ -1,5 +1,7 @@
 // Internal.
 // What the programs that answer line by line share: the input, numbers out of lines of text, the output.
+#![tactic(auto)]
+
 ghost use Rattle.std.specs.Prelude.{◌≡◌, ◌+◌, ◌≤◌, length};
 
 // A number of so many or more is kept as this one, so that no number of digits is too long to read.
@@ -176,5 +178,5 @@ pub fn input_room() -> [u8; 1048576]
 }
 
 pub fn print(text: &[u8]) {
-    io::write_all(libc::STDOUT_FILENO, text);
+    io::write_all(1, text);
 }

@@ -1,0 +1,11 @@
+-- `replay_lists::replay` is safe and ends: each turn starts behind the line before. Assumes nothing.
+use mathlib.Core.Path.{◌≡◌}
+use Prim.Native.Nat.{◌-◌}
+use lib.ListN.{length}
+use Rattle.replay_lists.proofs.replay.Given as goal
+
+abbrev pub invariant-loop-at : goal.invariant-loop-at
+invariant-loop-at l = (length l.numbers ≡ length l.initial.numbers) × (length l.words ≡ length l.initial.words) × (length l.work ≡ length l.initial.work)
+
+abbrev pub decreases-loop-at : goal.decreases-loop-at
+decreases-loop-at l = length l.text - l.at

@@ -1,0 +1,11 @@
+-- `replay_parts::replay` is safe and ends: each turn starts behind the line before. Assumes nothing.
+use mathlib.Core.Path.{◌≡◌}
+use Prim.Native.Nat.{◌-◌}
+use lib.ListN.{length}
+use Rattle.replay_parts.proofs.replay.Given as goal
+
+abbrev pub invariant-loop-at : goal.invariant-loop-at
+invariant-loop-at l = (length l.numbers ≡ length l.initial.numbers) × (length l.words ≡ length l.initial.words) × (length l.out ≡ length l.initial.out)
+
+abbrev pub decreases-loop-at : goal.decreases-loop-at
+decreases-loop-at l = length l.text - l.at
