@@ -1,5 +1,5 @@
 -- Laws of trees held in a store: they stay where their words stay, and what their nodes tell. Assumes nothing.
-use mathlib.Core.Path.{◌≡◌, refl, sym, subst, ◌∙◌}
+use mathlib.Core.Path.{◌≡◌, refl, sym, subst, ◌∙◌, ap}
 use mathlib.Core.List.{List, [], ◌∷◌}
 use mathlib.Core.Bool.{Bool, true, false, cond}
 use mathlib.Core.Option.{Option}
@@ -75,8 +75,8 @@ module _ (f : Bool) (w w' : List ℕ) (base top low top' low' : ℕ) (up : top �
       let b : get_or w' (n + 5) 0 ≡ get_or w (n + 5) 0 = s.below (n + 5) (omega arith) (omega arith) in
       record {
         node = node_frame n _ _ _ _ _ _ m;
-        first = rw a (frame _ kids h.first);
-        next = rw b (frame _ rest h.next);
+        first = rw a (frame (get_or w (n + 4) 0) kids h.first);
+        next = rw b (frame (get_or w (n + 5) 0) rest h.next);
       }
   frame n (part p l ws rest) h =
       let m = h.node in
@@ -85,7 +85,7 @@ module _ (f : Bool) (w w' : List ℕ) (base top low top' low' : ℕ) (up : top �
       record {
         node = node_frame n _ _ _ _ _ _ m;
         first = rw a (staged_frame _ ws h.first);
-        next = rw b (frame _ rest h.next);
+        next = rw b (frame (get_or w (n + 5) 0) rest h.next);
       }
 
 module _ (f : Bool) (w : List ℕ) (base top low : ℕ) where
@@ -235,7 +235,7 @@ module _ (w w' : List ℕ) (top k i s l a n : ℕ) (room : top + 10 ≤ length w
     address = refl;
     kept = rw (e, e₀) (same_put w top (k ∷ i ∷ s ∷ l ∷ a ∷ n ∷ x ∷ y ∷ z ∷ o ∷ []) room);
     holds = λ f base low t ks rest live above free ek ei ha hn.
-        rw (e, e₀) (new_tree f w top room base low live above free k i s l a n x y z o t ks rest ek ei ha hn (omega arith) (omega arith) (omega arith) (g₄ ∙ rw (g₂, g₁, g₃)));
+        subst (λ (v : List ℕ). Holds f v base (top + 10) low top (tree t s l ks rest)) (sym (e ∙ ap (λ (q : ℕ). put w q (k ∷ i ∷ s ∷ l ∷ a ∷ n ∷ x ∷ y ∷ z ∷ o ∷ [])) e₀)) (new_tree f w top room base low live above free k i s l a n x y z o t ks rest ek ei ha hn (omega arith) (omega arith) (omega arith) (g₄ ∙ rw (g₂, g₁, g₃)));
   }
 
   pub pushed_part : (at t₂ t₄ t₅ x y z : ℕ) → at ≡ top → w' ≡ put w at (2 ∷ i ∷ s ∷ l ∷ a ∷ n ∷ x ∷ y ∷ z ∷ 0 ∷ [])
@@ -246,7 +246,7 @@ module _ (w w' : List ℕ) (top k i s l a n : ℕ) (room : top + 10 ≤ length w
     address = refl;
     kept = rw (e, e₀) (same_put w top (2 ∷ i ∷ s ∷ l ∷ a ∷ n ∷ x ∷ y ∷ z ∷ 0 ∷ []) room);
     holds = λ f base low ws rest live above free ei ha hn.
-        rw (e, e₀) (new_part f w top room base low live above free 2 i s l a n x y z 0 ws rest refl refl ei ha hn (omega arith) (omega arith) (omega arith));
+        subst (λ (v : List ℕ). Holds f v base (top + 10) low top (part s l ws rest)) (sym (e ∙ ap (λ (q : ℕ). put w q (2 ∷ i ∷ s ∷ l ∷ a ∷ n ∷ x ∷ y ∷ z ∷ 0 ∷ [])) e₀)) (new_part f w top room base low live above free 2 i s l a n x y z 0 ws rest refl refl ei ha hn (omega arith) (omega arith) (omega arith));
   }
 
 pub staged_more : (w : List ℕ) (low x a r : ℕ) → 1 ≤ low → low ≤ length w → x < 65536 → r ≡ low - 1 → a ≡ r → StagedMore w (set w a x) low x r

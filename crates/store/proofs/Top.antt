@@ -1,5 +1,5 @@
 -- A top over a list: what writing it asks, and what it leaves. Assumes nothing.
-use mathlib.Core.Path.{◌≡◌, refl, ap}
+use mathlib.Core.Path.{subst, ◌≡◌, refl, ap, sym}
 use mathlib.Core.List.{List, append-nil}
 use mathlib.Core.Bool.{false}
 use mathlib.Core.Option.{Option, some}
@@ -25,7 +25,7 @@ same_words t s l kids = append-nil (packed kids)
 module _ (w w₁ : List ℕ) (top id s l kids root top₁ : ℕ) (q : PushedTree w w₁ top 1 id s l kids 0 root) (e : top₁ ≡ top + 10) where
   root_holds : (room wide : ℕ) (p : TopReady w top kids room wide) → Holds false w₁ p.base top₁ p.low root (tree (some id) s l p.trees nil)
   unfolding kind id_word
-  root_holds room wide p = rw e (q.holds false p.base p.low (some id) p.trees nil p.live p.above (omega (arith, p.free)) refl refl p.holds refl)
+  root_holds room wide p = subst (λ (x : ℕ). Holds false w₁ p.base x p.low root (tree (some id) s l p.trees nil)) (sym e) (q.holds false p.base p.low (some id) p.trees nil p.live p.above (omega (arith, p.free)) refl refl p.holds refl)
 
   pub top_writable : (room wide : ℕ) → TopReady w top kids room wide → Writable w₁ top₁ root room wide
   top_writable room wide p =

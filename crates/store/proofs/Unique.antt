@@ -2,9 +2,9 @@
 use mathlib.Core.Path.{◌≡◌, refl, sym, ◌∙◌}
 use mathlib.Core.List.{List}
 use mathlib.Core.Bool.{Bool}
-use Prim.Native.Nat.{ℕ}
+use Prim.Native.Nat.{◌+◌, ℕ}
 use native.Mathlib.Omega.{arith}
-use lib.ListN.{length}
+use lib.ListN.{get_or, length}
 use lib.Seq.{ext_get_or}
 use Rattle.tree.specs.Trees.{Trees, nil, tree, part}
 use Rattle.store.specs.Store.{Staged, Holds}
@@ -26,12 +26,12 @@ module _ (f g : Bool) (w : List ℕ) (base top low base' top' low' : ℕ) where
       let a = stored_same f g t t' (sym h.node.kind_at ∙ k.node.kind_at) (sym h.node.id_at ∙ k.node.id_at) in
       let b = sym h.node.start_at ∙ k.node.start_at in
       let c = sym h.node.length_at ∙ k.node.length_at in
-      let d = unique _ kids kids' h.first k.first in
-      let e = unique _ rest rest' h.next k.next in
+      let d = unique (get_or w (n + 4) 0) kids kids' h.first k.first in
+      let e = unique (get_or w (n + 5) 0) rest rest' h.next k.next in
       cc
   unique n (part s l ws rest) (part s' l' ws' rest') h k =
       let b = sym h.node.start_at ∙ k.node.start_at in
       let c = sym h.node.length_at ∙ k.node.length_at in
       let d = words_same w low low' _ ws ws' (sym h.node.id_at ∙ k.node.id_at) h.first k.first in
-      let e = unique _ rest rest' h.next k.next in
+      let e = unique (get_or w (n + 5) 0) rest rest' h.next k.next in
       cc

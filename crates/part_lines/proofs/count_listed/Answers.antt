@@ -11,7 +11,7 @@ use lib.ListN.{length, drop}
 use Rattle.words.specs.Words.{id_of}
 use Rattle.part_lines.specs.Steps.{listed_in}
 use Rattle.part_lines.proofs.Counts.{listed_hit, listed_miss, listed_end}
-use Rattle.part_lines.proofs.count_listed.Goals.{Joined-word-first_repeat}
+use Rattle.part_lines.proofs.count_listed.Goals.{else-word-first_repeat, then-word-first_repeat, Joined-word-first_repeat}
 use Rattle.part_lines.proofs.count_listed.Goals as goal
 
 module _ (c : Joined-word-first_repeat) where
@@ -31,13 +31,12 @@ module _ (c : Joined-word-first_repeat) where
   record_in = omega (arith, c.loop-i-test.true)
 
   sum_at : c.if-word-first_repeat.count + listed_in F₁ (drop ((i₁ + 1) * 4) ws₁) ≡ count₁ + listed_in F₁ (drop (i₁ * 4) ws₁)
-  sum_at = ⊎_elim
-      (λ u. listed_hit F₁ ws₁ i₁ count₁ c.if-word-first_repeat.count record_in (lt-ltb (id_of ws₁ i₁) F₁ (omega (arith, u.0.taken, c.word.ensures))) u.1)
-      (λ v. listed_miss F₁ ws₁ i₁ count₁ c.if-word-first_repeat.count record_in (le-ltb (id_of ws₁ i₁) F₁ (omega (arith, v.0.left, c.word.ensures))) v.1)
-      c.if-word-first_repeat.branch
+  sum_at = elim c.if-word-first_repeat.branch [ then-word-first_repeat u ↦ listed_hit F₁ ws₁ i₁ count₁ c.if-word-first_repeat.count record_in (lt-ltb (id_of ws₁ i₁) F₁ (omega (arith, u.if-word-first_repeat.true, c.word.ensures))) u.count-is
+    | else-word-first_repeat v ↦ listed_miss F₁ ws₁ i₁ count₁ c.if-word-first_repeat.count record_in (le-ltb (id_of ws₁ i₁) F₁ (omega (arith, v.if-word-first_repeat.false, c.word.ensures))) v.count-is ]
 
   small_at : c.if-word-first_repeat.count ≤ count₁ + 1
-  small_at = ⊎_elim (λ u. omega (arith, u.1)) (λ v. omega (arith, v.1)) c.if-word-first_repeat.branch
+  small_at = elim c.if-word-first_repeat.branch [ then-word-first_repeat u ↦ omega (arith, u.count-is)
+    | else-word-first_repeat v ↦ omega (arith, v.count-is) ]
 
 pub loop-i-preserved : goal.loop-i-preserved
 loop-i-preserved c =

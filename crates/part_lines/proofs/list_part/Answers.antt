@@ -13,7 +13,7 @@ use lib.Dec.{ltb}
 use mathlib.Core.Bool.{true}
 use Rattle.part_lines.specs.Steps.{Lent}
 use Rattle.part_lines.proofs.Walk.{Walk, walk_first, walk_end, out_length, walk_miss, line_fits, depth_fits, ranges_fit, end_fits, walk_hit}
-use Rattle.part_lines.proofs.list_part.Goals.{After-open_ends-top, Then-word-first_repeat}
+use Rattle.part_lines.proofs.list_part.Goals.{else-word-first_repeat, then-word-first_repeat, After-open_ends-top, Then-word-first_repeat}
 use Rattle.part_lines.proofs.list_part.Goals as goal
 
 -- at record i, with the ends past its offset counted
@@ -78,10 +78,7 @@ overflow_add-depth c = omega (arith, depth_in (goal.at.overflow_add-depth c).The
 
 pub put_record-requires : goal.put_record-requires
 put_record-requires c =
-    let hit = has_line (goal.at.put_record-requires c).Then-word-first_repeat in (
-      record_in (goal.at.put_record-requires c).After-open_ends-top,
-      (ranges_fit (lines₀ (goal.at.put_record-requires c).After-open_ends-top) (work₀ (goal.at.put_record-requires c).After-open_ends-top) (lent₁ (goal.at.put_record-requires c).After-open_ends-top) (walk₁ (goal.at.put_record-requires c).After-open_ends-top) (t₁ (goal.at.put_record-requires c).After-open_ends-top) c.open_ends-top.ensures (record_in (goal.at.put_record-requires c).After-open_ends-top) hit, line_in (goal.at.put_record-requires c).Then-word-first_repeat),
-    )
+    let hit = has_line (goal.at.put_record-requires c).Then-word-first_repeat in record { record_width_in_bounds = record_in (goal.at.put_record-requires c).After-open_ends-top; i_bound = ranges_fit (lines₀ (goal.at.put_record-requires c).After-open_ends-top) (work₀ (goal.at.put_record-requires c).After-open_ends-top) (lent₁ (goal.at.put_record-requires c).After-open_ends-top) (walk₁ (goal.at.put_record-requires c).After-open_ends-top) (t₁ (goal.at.put_record-requires c).After-open_ends-top) c.open_ends-top.ensures (record_in (goal.at.put_record-requires c).After-open_ends-top) hit; line_width_in_bounds = line_in (goal.at.put_record-requires c).Then-word-first_repeat }
 
 pub overflow_add-work : goal.overflow_add-work
 overflow_add-work c = omega (arith, end_in₀ (goal.at.overflow_add-work c).Then-word-first_repeat)
@@ -102,14 +99,10 @@ pub loop-i-preserved : goal.loop-i-preserved
 loop-i-preserved c = λ lent.
     let id = id_of (part₁ (goal.at.loop-i-preserved c).After-open_ends-top) (i₁ (goal.at.loop-i-preserved c).After-open_ends-top) in
     let F = c.args.first_repeat in
-    ⊎_elim
-    (λ u.
-    walk_hit (lines₀ (goal.at.loop-i-preserved c).After-open_ends-top) (work₀ (goal.at.loop-i-preserved c).After-open_ends-top) lent (c.loop-i.invariant lent) (t₁ (goal.at.loop-i-preserved c).After-open_ends-top) c.open_ends-top.ensures (record_in (goal.at.loop-i-preserved c).After-open_ends-top) (lt-ltb id F (omega (arith, u.0.taken, c.word.ensures)))
-    c.if-word-first_repeat.work c.if-word-first_repeat.lines c.if-word-first_repeat.top c.if-word-first_repeat.to (u.7 ∙ ap (set c.loop-i.work (c.args.at + t₁ (goal.at.loop-i-preserved c).After-open_ends-top)) u.6.ensures) (u.8 ∙ u.2.ensures) u.9 u.10)
-    (λ v.
-    walk_miss (lines₀ (goal.at.loop-i-preserved c).After-open_ends-top) (work₀ (goal.at.loop-i-preserved c).After-open_ends-top) lent (c.loop-i.invariant lent) (t₁ (goal.at.loop-i-preserved c).After-open_ends-top) c.open_ends-top.ensures (record_in (goal.at.loop-i-preserved c).After-open_ends-top) (le-ltb id F (omega (arith, v.0.left, c.word.ensures)))
-    c.if-word-first_repeat.work c.if-word-first_repeat.lines c.if-word-first_repeat.top c.if-word-first_repeat.to v.1 v.2 v.3 v.4)
-    c.if-word-first_repeat.branch
+    elim c.if-word-first_repeat.branch [ then-word-first_repeat u ↦ walk_hit (lines₀ (goal.at.loop-i-preserved c).After-open_ends-top) (work₀ (goal.at.loop-i-preserved c).After-open_ends-top) lent (c.loop-i.invariant lent) (t₁ (goal.at.loop-i-preserved c).After-open_ends-top) c.open_ends-top.ensures (record_in (goal.at.loop-i-preserved c).After-open_ends-top) (lt-ltb id F (omega (arith, u.if-word-first_repeat.true, c.word.ensures)))
+    c.if-word-first_repeat.work c.if-word-first_repeat.lines c.if-word-first_repeat.top c.if-word-first_repeat.to (u.work-is ∙ ap (set c.loop-i.work (c.args.at + t₁ (goal.at.loop-i-preserved c).After-open_ends-top)) u.word-then-word-first_repeat.ensures) (u.lines-is ∙ u.put_record.ensures) u.top-is u.to-is
+    | else-word-first_repeat v ↦ walk_miss (lines₀ (goal.at.loop-i-preserved c).After-open_ends-top) (work₀ (goal.at.loop-i-preserved c).After-open_ends-top) lent (c.loop-i.invariant lent) (t₁ (goal.at.loop-i-preserved c).After-open_ends-top) c.open_ends-top.ensures (record_in (goal.at.loop-i-preserved c).After-open_ends-top) (le-ltb id F (omega (arith, v.if-word-first_repeat.false, c.word.ensures)))
+    c.if-word-first_repeat.work c.if-word-first_repeat.lines c.if-word-first_repeat.top c.if-word-first_repeat.to v.work-is v.lines-is v.top-is v.to-is ]
 
 pub shape_of-work : goal.shape_of-work
 shape_of-work c = (c.loop-i.invariant c.requires).sized

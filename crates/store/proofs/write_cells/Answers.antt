@@ -164,7 +164,7 @@ pub loop-at-preserved-then-work-n-eq2 : goal.loop-at-preserved-then-work-n-eq2
 loop-at-preserved-then-work-n-eq2 c = let q = (part_over (goal.at.loop-at-preserved-then-work-n-eq2 c).After-index-n (simp add-zero at c.if-work-n-eq2.true) c.write_part-count.new.out c.write_part-count.new.words c.write_part-count.result c.write_part-count.ensures).1 in (p₁ (goal.at.loop-at-preserved-then-work-n-eq2 c).At-loop-at, q.0, q.1, q.2)
 
 pub write_tree-requires : goal.write_tree-requires
-write_tree-requires c = let r = tree_at (goal.at.write_tree-requires c).After-index-n (simp add-zero at c.if-work-n-eq2.false) in (inside_at (goal.at.write_tree-requires c).After-index-n, (r.kids_read, (room_at (goal.at.write_tree-requires c).After-index-n, r.few)))
+write_tree-requires c = let r = tree_at (goal.at.write_tree-requires c).After-index-n (simp add-zero at c.if-work-n-eq2.false) in record { node_width_in_bounds = inside_at (goal.at.write_tree-requires c).After-index-n; readable = r.kids_read; cell_width_in_bounds = room_at (goal.at.write_tree-requires c).After-index-n; node_cells_place_bound = r.few }
 
 pub overflow_add-at : goal.overflow_add-at
 overflow_add-at c = omega (arith, inside_at (goal.at.overflow_add-at c).After-index-n)
