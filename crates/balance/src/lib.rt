@@ -196,7 +196,7 @@ fn rebuild(none_first: bool, cells: &[u32], high: u32, low: u32, work: &mut [u32
 }
 
 // What the call answers.
-#[derive(Drop)]
+#[derive(Clone, Copy)]
 pub enum Balanced {
     // The result stands in the outputs: how many cells and packed words.
     Cells(usize, usize),

@@ -1,6 +1,8 @@
 // Internal, for the build and the balance call.
 // Balancing on the store of trees: the core of `Tree::balance` and of repeat trees. A row of siblings is its first node and how
 // many they are; the balanced size of each is read off its node.
+#![tactic(auto)]
+
 ghost use Rattle.std.specs.Prelude.{◌≡◌, ◌+◌, ◌-◌, ◌*◌, ◌/◌, ◌≤◌, ◌<◌, [], ◌∷◌, length, get_or};
 ghost use Rattle.store.specs.Store.{word, Readable, node_width};
 ghost use Rattle.tree.specs.Balance.{total, share};
@@ -14,7 +16,7 @@ use store::{
 };
 
 // The first group of a row: how many trees, their size, the list after them and their end.
-#[derive(Drop)]
+#[derive(Clone, Copy)]
 pub struct Front {
     pub count: u32,
     pub size: u32,
@@ -99,7 +101,7 @@ pub fn row_size(work: &[u32], node: u32, k: u32, kind: u32, id: u32) -> u32
 }
 
 // A list, and the store's new top.
-#[derive(Drop)]
+#[derive(Clone, Copy)]
 pub struct Made {
     pub top: u32,
     pub node: u32,
@@ -177,7 +179,7 @@ fn join(
 }
 
 // A group that waits to be placed: its first node, how many trees, their size, their end.
-#[derive(Drop)]
+#[derive(Clone, Copy)]
 pub struct Group {
     pub node: u32,
     pub count: u32,
@@ -237,7 +239,7 @@ fn push_groups(work: &mut [u32], stack: u32, node: u32, k: u32, kind: u32, id: u
 }
 
 // The tree that siblings are put under: its type by kind and id, its start and its length.
-#[derive(Drop)]
+#[derive(Clone, Copy)]
 pub struct Parent {
     pub kind: u32,
     pub id: u32,

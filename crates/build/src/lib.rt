@@ -11,14 +11,14 @@ use tree::CELL_WIDTH;
 use words::RECORD_WIDTH;
 
 // A given length of the whole tree, or none: then it is the last child's end.
-#[derive(Drop)]
+#[derive(Clone, Copy)]
 pub enum Given {
     Length(u32),
     Last,
 }
 
 // What the call answers.
-#[derive(Drop)]
+#[derive(Clone, Copy)]
 pub enum Built {
     // The result stands in the outputs: how many cells and packed words.
     Cells(usize, usize),

@@ -27,7 +27,7 @@ use words::RECORD_WIDTH;
 pub const MOST: u32 = 4294967295;
 
 // A cell.
-#[derive(Drop)]
+#[derive(Clone, Copy)]
 pub struct CellWords {
     pub kind: u32,
     pub id: u32,
@@ -40,7 +40,7 @@ pub struct CellWords {
 
 // What a link says of the cell that it names: where the sibling before it ends, the length of its parent (the largest word
 // where that is the top) and its parent's absolute start.
-#[derive(Drop)]
+#[derive(Clone, Copy)]
 pub struct Link {
     pub after: u32,
     pub within: u32,
@@ -48,14 +48,14 @@ pub struct Link {
 }
 
 // The open links: how many there are, and the lowest cell that is sure to be out of place, one past the last cell for none.
-#[derive(Drop)]
+#[derive(Clone, Copy)]
 pub struct Names {
     pub top: usize,
     pub limit: usize,
 }
 
 // What is the same for every cell: the type count, the number of cells, and the last part's cell, 0 for none.
-#[derive(Drop)]
+#[derive(Clone, Copy)]
 pub struct Setting {
     pub types: u32,
     pub n: usize,

@@ -7,7 +7,7 @@ ghost use Rattle.tree.specs.Items.{same, repeats};
 ghost use Rattle.cursor.specs.Own.{own_of};
 
 // What records stand under: a repeat tree with its id, or any other tree.
-#[derive(Drop)]
+#[derive(Clone, Copy)]
 pub enum InRepeat {
     Plain,
     Id(u32),

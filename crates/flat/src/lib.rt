@@ -12,7 +12,7 @@ use words::RECORD_SIZE;
 
 // How far a flat part reaches: the place before it, how many records it holds, the number of the leftmost one, and where the
 // first one held ends.
-#[derive(Drop)]
+#[derive(Clone, Copy)]
 pub struct Extent {
     pub p: usize,
     pub count: u32,
@@ -151,7 +151,7 @@ fn is_lone_long(count: u32, length: u32) -> bool
 }
 
 // A flat part put before a list: the place before its records, the store's new bounds and the list.
-#[derive(Drop)]
+#[derive(Clone, Copy)]
 pub struct FlatNode {
     pub p: usize,
     pub top: u32,
@@ -226,7 +226,7 @@ fn take_flat_node(
 }
 
 // What a tree has gathered, and where the staged words begin.
-#[derive(Drop)]
+#[derive(Clone, Copy)]
 pub struct Flattened {
     pub low: u32,
     pub g: gathering::Gathering,

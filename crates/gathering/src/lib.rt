@@ -7,7 +7,7 @@ ghost use Rattle.gathering.specs.Gathering.{Closed, PassedOver, RestClosed, Grou
 use store::{NODE_TREES, NODE_WIDTH};
 
 // What a tree has gathered: closed groups, the children since then, the last group end.
-#[derive(Drop)]
+#[derive(Clone, Copy)]
 pub struct Gathering {
     pub top: u32,
     pub groups: u32,

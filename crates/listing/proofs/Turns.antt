@@ -86,9 +86,9 @@ pub noted_push : (held : List ℕ) (m at i w q d : ℕ) (ts : Trees) (os : List 
 unfolding push unless_none nodes is_nil
 noted_push held m at i w q d nil os x e r b c s k h = subst (λ y. Noted y m at i os) (sym (noted_none held x q d e)) (subst (λ y. Noted held m at y os) (add-zero i) h)
 noted_push held m at i w q d (tree t s l kids later) os x e r b c sh k h =
-    rw (noted_some held x q d i e) (some_noted held m at i w q d (tree t s l kids later) os r sh k (omega arith) refl (omega arith) (omega arith) h)
+    subst (λ (y : List ℕ). Noted y m at i (record { words = w; base = q; depth = d; trees = tree t s l kids later } ∷ os)) (sym (noted_some held x q d i e)) (some_noted held m at i w q d (tree t s l kids later) os r sh k (omega arith) refl (omega arith) (omega arith) h)
 noted_push held m at i w q d (part s l us later) os x e r b c sh k h =
-    rw (noted_some held x q d i e) (some_noted held m at i w q d (part s l us later) os r sh k (omega arith) refl (omega arith) (omega arith) h)
+    subst (λ (y : List ℕ). Noted y m at i (record { words = w; base = q; depth = d; trees = part s l us later } ∷ os)) (sym (noted_some held x q d i e)) (some_noted held m at i w q d (part s l us later) os r sh k (omega arith) refl (omega arith) (omega arith) h)
 
 -- The pass before cell i, with `at` words written: `rest` are the lines still to be written.
 pub record State (T F : ℕ) (cs ws held : List ℕ) (m at i : ℕ) (rest : List ℕ) : Type 0 where

@@ -1,5 +1,7 @@
 // Listing: the lines of a tree that is handed in as cells and packed words. After the tree check the lines are counted, then written, in
 // passes over the cells in order, no recursion; the records of a part are read where its cell stands.
+#![tactic(auto)]
+
 ghost use Rattle.std.specs.Prelude.{◌≡◌, cond, [], ◌∷◌, ◌+◌, ◌-◌, ◌*◌, ◌/◌, ◌<◌, ◌≤◌, length, take};
 ghost use Rattle.tree.specs.Cells.{cell_width, cell_next};
 ghost use Rattle.words.specs.Words.{put, front};
@@ -15,7 +17,7 @@ use words::Found;
 const MOST_LINES: usize = 4294967295;
 
 // What listing answers.
-#[derive(Drop)]
+#[derive(Clone, Copy)]
 pub enum Listed {
     // Accepted, with the number of lines.
     Lines(usize),

@@ -1,4 +1,6 @@
 // Materialise: a tree's packed parts become trees.
+#![tactic(auto)]
+
 ghost use Rattle.std.specs.Prelude.{◌≡◌, ℕ, ◌+◌, ◌-◌, ◌*◌, ◌/◌, ◌≤◌, ◌<◌, List, [], ◌∷◌, length, get_or};
 ghost use Rattle.words.specs.Words.{front, record_width};
 ghost use Rattle.tree.specs.Cells.{cells, cell_width, next_place};
@@ -151,7 +153,7 @@ fn unpack_part(
 }
 
 // Where the writing stands: how many cells are still to come, and how many trees and siblings have no parent yet.
-#[derive(Drop)]
+#[derive(Clone, Copy)]
 struct Place {
     cell: usize,
     trees: usize,
@@ -314,7 +316,7 @@ fn count_cells(cells: &[u32]) -> usize
 }
 
 // What the call answers.
-#[derive(Drop)]
+#[derive(Clone, Copy)]
 pub enum Materialized {
     // The result stands in the output: how many cells.
     Cells(usize),

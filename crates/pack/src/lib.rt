@@ -17,7 +17,7 @@ use scan::{BufferScan, Memo, Scan, find_buffer_size};
 use words::RECORD_WIDTH;
 
 // A part that is staged: the records still to read, its lowest word, where it starts and how long it is.
-#[derive(Drop)]
+#[derive(Clone, Copy)]
 pub struct Part {
     pub p: usize,
     pub low: usize,
@@ -26,7 +26,7 @@ pub struct Part {
 }
 
 // What taking a span gives: a part, or nothing and what the next scan under the same parent goes on from.
-#[derive(Drop)]
+#[derive(Clone, Copy)]
 pub enum Taken {
     Packed(Part),
     Unpacked(Memo),

@@ -10,7 +10,7 @@ ghost use Rattle.part.specs.Answer.{checked_outcome};
 use words::RECORD_WIDTH;
 
 // What the part check answers.
-#[derive(Drop)]
+#[derive(Clone, Copy)]
 pub enum Checked {
     // Accepted, with the number of records, the greatest end of any and the deepest nesting.
     Records(usize, u16, usize),
@@ -20,7 +20,7 @@ pub enum Checked {
 
 // How far the walk over the records has come: the fault of the record that was tested last or 0, how many ends are open, and the greatest
 // end and the deepest nesting so far.
-#[derive(Drop)]
+#[derive(Clone, Copy)]
 pub struct Progress {
     pub fault: u32,
     pub top: usize,

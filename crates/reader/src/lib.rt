@@ -16,7 +16,7 @@ pub struct Reader<'a> {
 }
 
 // The words of a record, and the place before it.
-#[derive(Drop)]
+#[derive(Clone, Copy)]
 pub struct Record {
     pub id: u32,
     pub start: u32,

@@ -13,7 +13,7 @@ ghost use Rattle.records.specs.Answer.{checked_outcome};
 use words::{RECORD_SIZE, RECORD_WIDTH};
 
 // What the check answers.
-#[derive(Drop)]
+#[derive(Clone, Copy)]
 pub enum Checked {
     // Accepted, with the number of records.
     Records(u32),
@@ -22,7 +22,7 @@ pub enum Checked {
 }
 
 // What the scan over all records finds.
-#[derive(Drop)]
+#[derive(Clone, Copy)]
 pub enum Scanned {
     // The first of 6 to 9, with its record.
     Refused(u32, u32),

@@ -7,7 +7,7 @@ ghost use Rattle.run.specs.Answer.{ran_outcome, ran_calls};
 use tree::CELL_WIDTH;
 
 // What the run answers.
-#[derive(Drop)]
+#[derive(Clone, Copy)]
 pub enum Ran {
     // The lines stand in the last output: how many cells and packed words the build wrote, how many lines.
     Lines(usize, usize, usize),

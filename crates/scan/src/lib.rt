@@ -18,7 +18,7 @@ use records::{end_at, id_at, span_at, start_at};
 use words::{RECORD_SIZE, RECORD_WIDTH};
 
 // A run: its words, where its leftmost span starts, and the words of its repeat records.
-#[derive(Drop)]
+#[derive(Clone, Copy)]
 pub struct BufferScan {
     pub size: usize,
     pub start: u32,
@@ -27,7 +27,7 @@ pub struct BufferScan {
 
 // How far a walk got under one parent: its place, the start of the span walked last, the place behind the record of the own
 // id passed last, and the start of the span walked last before that.
-#[derive(Drop)]
+#[derive(Clone, Copy)]
 pub struct Memo {
     pub place: u32,
     pub start: u32,
@@ -36,7 +36,7 @@ pub struct Memo {
 }
 
 // A run that packs, or nothing, with how far the walk got.
-#[derive(Drop)]
+#[derive(Clone, Copy)]
 pub enum Scan {
     Run(BufferScan),
     Nothing(Memo),

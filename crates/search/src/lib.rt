@@ -25,7 +25,7 @@ pub const SIDE_AFTER: i8 = 2;
 pub const SIDE_DONT_CARE: i8 = 4;
 
 // What a search answers.
-#[derive(Drop)]
+#[derive(Clone, Copy)]
 pub enum Searched {
     // The word offset of the match.
     Match(usize),

@@ -13,7 +13,7 @@ use part::Checked;
 use words::{Found, RECORD_WIDTH};
 
 // What slicing answers.
-#[derive(Drop)]
+#[derive(Clone, Copy)]
 pub enum Sliced {
     // Accepted, with the number of words written and the slice's length.
     Words(usize, u16),

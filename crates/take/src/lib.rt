@@ -11,7 +11,7 @@ ghost use Rattle.take.specs.Loop.{ended, Begins, BeginsAt, TakenAll};
 use stepping::step;
 
 // A tree: its id, its range, and the record at which its span begins.
-#[derive(Drop)]
+#[derive(Clone, Copy)]
 pub struct Node {
     pub id: u32,
     pub start: u32,
@@ -20,7 +20,7 @@ pub struct Node {
 }
 
 // A tree that waits while a tree inside it is read: what it has gathered, and the memo of its scans.
-#[derive(Drop)]
+#[derive(Clone, Copy)]
 pub struct Frame {
     pub tree: Node,
     pub groups: u32,
@@ -31,7 +31,7 @@ pub struct Frame {
 
 // Where the build stands: how many records are left, how many trees wait, the lowest packed word, the tree that is read, what it has
 // gathered, and the memo of its scans.
-#[derive(Drop)]
+#[derive(Clone, Copy)]
 pub struct State {
     pub p: usize,
     pub depth: usize,
@@ -42,7 +42,7 @@ pub struct State {
 }
 
 // A part that is built: the records left behind it, its lowest word and its node.
-#[derive(Drop)]
+#[derive(Clone, Copy)]
 pub struct BuiltNode {
     pub p: usize,
     pub low: u32,
@@ -50,14 +50,14 @@ pub struct BuiltNode {
 }
 
 // A tree whose children are to be read, and the memo of the scan that found no run.
-#[derive(Drop)]
+#[derive(Clone, Copy)]
 pub struct PendingNode {
     pub node: Node,
     pub memo: scan::Memo,
 }
 
 // What a record that is taken has become.
-#[derive(Drop)]
+#[derive(Clone, Copy)]
 pub enum StartedNode {
     Built(BuiltNode),
     Pending(PendingNode),
@@ -75,7 +75,7 @@ fn finished(s: State) -> bool
 }
 
 // The first-level trees of a list: their first node, the store's top and the lowest packed word.
-#[derive(Drop)]
+#[derive(Clone, Copy)]
 pub struct FirstLevel {
     pub top: u32,
     pub low: u32,

@@ -12,7 +12,7 @@ pub const RECORD_WIDTH: usize = 4;
 pub const RECORD_SIZE: u32 = 4;
 
 // The first place for which a test holds, or nothing.
-#[derive(Drop)]
+#[derive(Clone, Copy)]
 pub enum Found {
     At(usize),
     Nothing,

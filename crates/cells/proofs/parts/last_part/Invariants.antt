@@ -1,0 +1,13 @@
+-- `cells::parts::last_part` meets its contract. The invariant: no part stands from that cell on. Assumes nothing.
+use borrow.Author.Rules.{rules}
+use Prim.Native.Nat.{◌-◌, ◌≤◌}
+use native.Mathlib.Nat.{add-zero}
+use native.Mathlib.Omega.{arith}
+use Rattle.cells.proofs.Reading.{Bare, bare_start, bare_back, last_none, last_found}
+use Rattle.cells.proofs.parts.last_part.Given as goal
+
+abbrev pub invariant-loop-last : goal.invariant-loop-last
+invariant-loop-last l = (l.last ≤ l.n) × Bare l.cells l.last
+
+abbrev pub decreases-loop-last : goal.decreases-loop-last
+decreases-loop-last l = l.last
