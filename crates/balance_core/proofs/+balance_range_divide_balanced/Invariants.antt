@@ -1,7 +1,7 @@
 -- `w` is what the work slice held before the row's groups were put to wait.
 use mathlib.Core.List.{List}
 use Prim.Native.Nat.{ℕ, ◌+◌, ◌*◌}
-use Rattle.tree.specs.Tree.{Trees}
+use Rattle.tree.specs.Trees.{Trees}
 use Rattle.balance_core.specs.Pending.{Pushed}
 use Rattle.balance_core.specs.Ready.{DivideReady}
 use Rattle.balance_core.proofs.Dividing as L

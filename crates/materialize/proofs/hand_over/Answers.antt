@@ -33,7 +33,7 @@ module _ (m : At-loop-left) where
   out = m.loop-left.out
 
   abbrev left : ℕ
-  left = m.loop-left.false
+  left = m.loop-left.left
 
   abbrev going : Going held out₀ out low sp limit start left
   going = m.loop-left.invariant
@@ -85,6 +85,9 @@ overflow_add-root c = omega (arith, position_inside (goal.at.overflow_add-root c
 
 pub offset_bounds-out-root : goal.offset_bounds-out-root
 offset_bounds-out-root c = omega (arith, position_inside (goal.at.offset_bounds-out-root c).After-index-root)
+
+pub bounds-out-root : goal.bounds-out-root
+bounds-out-root c = position_inside (goal.at.bounds-out-root c).After-index-root
 
 pub overflow_mul-out : goal.overflow_mul-out
 overflow_mul-out c = omega (arith, position_inside (goal.at.overflow_mul-out c).After-index-root)

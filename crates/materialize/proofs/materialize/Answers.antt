@@ -90,7 +90,7 @@ returns-then-out-total c =
 pub write_back-requires : goal.write_back-requires
 write_back-requires c =
     ready (types (goal.at.write_back-requires c).Start) (cs (goal.at.write_back-requires c).Start) (ws (goal.at.write_back-requires c).Start) (work (goal.at.write_back-requires c).Start) (out (goal.at.write_back-requires c).Start) (few_types (goal.at.write_back-requires c).Else-types-gt65536) (enough_work (goal.at.write_back-requires c).Else-too_little_work) (no_fault (goal.at.write_back-requires c).In_default)
-    c.count_cells-total.result c.count_cells-total.ensures c.tree_check.new.work c.tree_check.auto.1.1.1.1.0
+    c.count_cells-total.result c.count_cells-total.ensures c.tree_check.new.work c.tree_check.auto.work
     (short_words (goal.at.write_back-requires c).In_default) (omega (arith, c.if-total-gt4294967295.false)) (omega (arith, c.if-out-total.false))
 
 pub returns : goal.returns

@@ -81,5 +81,5 @@ overflow_cast-work c = omega (arith, (few (goal.at.overflow_cast-work c).After-i
 pub returns : goal.returns
 returns c =
     part_wrote (held (goal.at.returns c).After-index-count) (out (goal.at.returns c).After-index-count) (cs (goal.at.returns c).After-index-count) (ws (goal.at.returns c).After-index-count) (total (goal.at.returns c).After-index-count) (i (goal.at.returns c).After-index-count) (cell (goal.at.returns c).After-index-count) (trees (goal.at.returns c).After-index-count) (marks (goal.at.returns c).After-index-count) (part (goal.at.returns c).After-index-count) (first (goal.at.returns c).After-index-count) (part_is (goal.at.returns c).After-index-count) (first_is (goal.at.returns c).After-index-count)
-    c.unpack_part-top.new.work c.unpack_part-top.new.out c.unpack_part-top.result (next (goal.at.returns c).After-index-count).inside (next (goal.at.returns c).After-index-count).is (next (goal.at.returns c).After-index-count).ranges
-    c.unpack_part-top.ensures c.unpack_part-top.auto.1.1.0 c.unpack_part-top.auto.1.1.1.1.0
+    c.unpack_part-top.new.work c.unpack_part-top.new.out c.unpack_part-top.result (next (goal.at.returns c).After-index-count).inside (next (goal.at.returns c).After-index-count).is (next (goal.at.returns c).After-index-count).fits
+    c.unpack_part-top.ensures c.unpack_part-top.auto.work c.unpack_part-top.auto.out

@@ -77,5 +77,5 @@ pub returns : goal.returns
 returns c =
     let written = simp add-zero at c.push.ensures in
     λ ws. tree_wrote (held (goal.at.returns c).After-staying-kept) (out (goal.at.returns c).After-staying-kept) (cs (goal.at.returns c).After-staying-kept) (total (goal.at.returns c).After-staying-kept) (i (goal.at.returns c).After-staying-kept) (cell (goal.at.returns c).After-staying-kept) (trees (goal.at.returns c).After-staying-kept) (marks (goal.at.returns c).After-staying-kept) (left (goal.at.returns c).After-staying-kept) (kept (goal.at.returns c).After-staying-kept) (left_is (goal.at.returns c).After-staying-kept) (kept_is (goal.at.returns c).After-staying-kept)
-    c.push.new.work c.push.new.out ws (next (goal.at.returns c).After-staying-kept).inside (next (goal.at.returns c).After-staying-kept).other (next (goal.at.returns c).After-staying-kept).type-inv
-    written c.push.auto.0 c.push.auto.1.1.1.0
+    c.push.new.work c.push.new.out ws (next (goal.at.returns c).After-staying-kept).inside (next (goal.at.returns c).After-staying-kept).other (next (goal.at.returns c).After-staying-kept).typed
+    written c.push.auto.work c.push.auto.out

@@ -41,7 +41,7 @@ module _ (t : In-loop-i) where
   out = t.loop-i.out
 
   abbrev left : ℕ
-  left = t.loop-i.false
+  left = t.loop-i.left
 
   abbrev i : ℕ
   i = t.loop-i.i
@@ -88,7 +88,7 @@ module _ (c : After-hand_over-kept) where
   moved = c.hand_over-kept.ensures
 
   abbrev same_size : length out₁ ≡ length (out (goal.at.After-hand_over-kept c).In-loop-i)
-  same_size = c.hand_over-kept.auto.1.1.1.1.1.0
+  same_size = c.hand_over-kept.auto.out
 
   children_taken : Taken (held (goal.at.After-hand_over-kept c).In-loop-i) out₁ (cell (goal.at.After-hand_over-kept c).In-loop-i + (i (goal.at.After-hand_over-kept c).In-loop-i - 1)) kept (left (goal.at.After-hand_over-kept c).In-loop-i)
   children_taken =
@@ -192,7 +192,7 @@ loop-i-preserved c =
     unpacking_next (held₀ (goal.at.loop-i-preserved c).In-loop-i) (held (goal.at.loop-i-preserved c).In-loop-i) (out₀ (goal.at.loop-i-preserved c).In-loop-i) (out (goal.at.loop-i-preserved c).In-loop-i) (cell (goal.at.loop-i-preserved c).In-loop-i) (position (goal.at.loop-i-preserved c).In-loop-i) (sp (goal.at.loop-i-preserved c).In-loop-i) (part (goal.at.loop-i-preserved c).In-loop-i) (left (goal.at.loop-i-preserved c).In-loop-i) (i (goal.at.loop-i-preserved c).In-loop-i)
     (unpacking (goal.at.loop-i-preserved c).In-loop-i) (more (goal.at.loop-i-preserved c).In-loop-i) (limit (goal.at.loop-i-preserved c).After-inside) (limit_is (goal.at.loop-i-preserved c).After-inside) (start (goal.at.loop-i-preserved c).After-hand_over-kept) (kept (goal.at.loop-i-preserved c).After-hand_over-kept) (out₁ (goal.at.loop-i-preserved c).After-hand_over-kept) (moved (goal.at.loop-i-preserved c).After-hand_over-kept) (same_size (goal.at.loop-i-preserved c).After-hand_over-kept)
     c.push.new.work c.push.new.out c.less-len.result c.word-in-loop-i-3.result
-    c.push.ensures c.push.auto.0 c.push.auto.1.1.1.0 start_at length_at c.word-in-loop-i-3.ensures
+    c.push.ensures c.push.auto.work c.push.auto.out start_at length_at c.word-in-loop-i-3.ensures
 
 pub shape_of-work : goal.shape_of-work
 shape_of-work c = c.loop-i.invariant.held_size
@@ -203,5 +203,5 @@ shape_of-out c = c.loop-i.invariant.out_size
 pub returns : goal.returns
 returns c =
     let a = c.args in
-    unpacking_end a.work.now c.loop-i.work a.out.now c.loop-i.out a.cell a.position a.sp a.part.now c.loop-i.false c.loop-i.i
+    unpacking_end a.work.now c.loop-i.work a.out.now c.loop-i.out a.cell a.position a.sp a.part.now c.loop-i.left c.loop-i.i
     c.loop-i.invariant (omega (arith, c.loop-i-test.false))

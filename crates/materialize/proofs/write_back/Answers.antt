@@ -64,7 +64,7 @@ pub loop-i-preserved : goal.loop-i-preserved
 loop-i-preserved c =
     writing_next (held₀ (goal.at.loop-i-preserved c).At-loop-i) (held (goal.at.loop-i-preserved c).At-loop-i) c.place_cell-next.new.work (out₀ (goal.at.loop-i-preserved c).At-loop-i) (out (goal.at.loop-i-preserved c).At-loop-i) c.place_cell-next.new.out (cs (goal.at.loop-i-preserved c).At-loop-i) (ws (goal.at.loop-i-preserved c).At-loop-i) (total (goal.at.loop-i-preserved c).At-loop-i)
     (i (goal.at.loop-i-preserved c).At-loop-i) (cell (goal.at.loop-i-preserved c).At-loop-i) (trees (goal.at.loop-i-preserved c).At-loop-i) (marks (goal.at.loop-i-preserved c).At-loop-i) c.place_cell-next.result.cell c.place_cell-next.result.trees c.place_cell-next.result.marks
-    (writing (goal.at.loop-i-preserved c).At-loop-i) c.loop-i-test.true c.place_cell-next.ensures c.place_cell-next.auto.1.1.1.1.0 c.place_cell-next.auto.1.1.1.1.1.0
+    (writing (goal.at.loop-i-preserved c).At-loop-i) c.loop-i-test.true c.place_cell-next.ensures c.place_cell-next.auto.work c.place_cell-next.auto.out
 
 pub shape_of-work : goal.shape_of-work
 shape_of-work c = c.loop-i.invariant.held_size
