@@ -1,6 +1,8 @@
 // `Tree::balance` of a tree that is handed in as cells and packed words. After the tree check the cells become nodes of the store:
 // one pass in order notes where each cell's parent starts, one from the last cell back adds the nodes. The top's children are then
 // balanced, and one pass writes the result out.
+#![tactic(auto)]
+
 ghost use Rattle.std.specs.Prelude.{◌≡◌, List, [], ◌∷◌, ℕ, ◌+◌, ◌*◌, ◌/◌, ◌<◌, ◌≤◌};
 ghost use lib.ListN.{length};
 ghost use Rattle.tree.specs.Cells.{cell_width};

@@ -1,5 +1,7 @@
 // Internal, for the build.
 // What a tree gathers, closed and finished: the group rule for records of a repeat tree's own id, and `finish_node`.
+#![tactic(auto)]
+
 ghost use Rattle.std.specs.Prelude.{◌+◌, ◌≤◌, ◌<◌, length};
 ghost use Rattle.store.specs.Store.{Readable, node_width};
 ghost use Rattle.gathering.specs.Gathering.{Closed, PassedOver, RestClosed, GroupsReady, GroupsBalanced, FinishReady, Finished};

@@ -1,5 +1,7 @@
 // Internal, for the build.
 // Packing a run: the words of its records, one 16-bit word to a word, are staged in the work slice from the top down.
+#![tactic(auto)]
+
 ghost use Rattle.std.specs.Prelude.{◌≡◌, [], ◌∷◌, ℕ, ◌+◌, ◌-◌, ◌*◌, ◌/◌, ◌<◌, ◌≤◌, length, get_or};
 ghost use Rattle.std.proofs.Math.Option.{Option};
 ghost use Rattle.words.specs.Words.{put, record_width};

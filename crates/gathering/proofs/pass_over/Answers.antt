@@ -1,0 +1,11 @@
+-- `gathering::pass_over` meets its contract: a group where the end and the bound come to at most the last group end. Assumes nothing.
+use Rattle.gathering.proofs.Passing.{passed_close, passed_on}
+use native.Mathlib.Omega.{arith}
+use borrow.Author.Rules.{rules}
+use Rattle.gathering.proofs.pass_over.Goals as goal
+
+pub returns-then-end-bound : goal.returns-then-end-bound
+returns-then-end-bound c = passed_close c.if-end-bound.true c.make_repeat_leaf.ensures
+
+pub returns : goal.returns
+returns c = passed_on (omega (arith, c.if-end-bound.false))
