@@ -1,5 +1,7 @@
 // Internal, for the build.
 // Flat parts: `take_flat_node`, and the loop over the records below a tree deeper than 2,500.
+#![tactic(auto)]
+
 ghost use Rattle.std.specs.Prelude.{◌≡◌, cond, ◌&&◌, ◌+◌, ◌*◌, ◌≤◌, ◌<◌, length, eqb, ltb};
 ghost use Rattle.words.specs.Words.{record_width};
 ghost use Rattle.cursor.specs.Own.{own_of};

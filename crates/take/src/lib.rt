@@ -1,6 +1,8 @@
 // Internal, for the build.
 // The take loop of the build: records are read from the last one back, and each becomes a part, a tree, or a tree whose children are
 // read next while the tree around it waits in a frame of the work slice.
+#![tactic(auto)]
+
 mod nodes;
 mod stepping;
 mod waiting;

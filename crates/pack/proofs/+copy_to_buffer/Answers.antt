@@ -4,6 +4,7 @@ use mathlib.Core.Path.{◌≡◌, sym, ◌∙◌}
 use Prim.Native.Nat.{ℕ, ◌-◌, ◌/◌, ◌%◌, ◌<◌}
 use native.Mathlib.Omega.{arith}
 use lib.ListN.{length, take}
+use lib.Seq.{length-take-le}
 use Rattle.tree.specs.Items.{Items}
 use Rattle.pack.specs.Copying.{span_start, Ready, Copies}
 use Rattle.pack.proofs.Copy as L
@@ -88,3 +89,15 @@ returns t c =
     let h = L.go_inside c.args.first_repeat c.args.records.now c.args.start lo off its c.args.part.now c.requires.whole r some c.if-first_repeat-records.false in
     h.whole _ _ _ _ (c.loop-q.invariant.2 h.offs h.kids h.ready) (omega (arith, c.begins.ensures, c.loop-q-test.false))
     (c.copy_record.ensures ∙ rw n)
+
+pub slice_bounds-copy_to_buffer-end-in-loop-q : goal.slice_bounds-copy_to_buffer-end-in-loop-q
+slice_bounds-copy_to_buffer-end-in-loop-q t c =
+    let h = L.go_inside c.args.first_repeat c.args.records.now c.args.start c.requires.lo c.requires.off c.requires.its c.args.part.now c.requires.whole c.requires.ready c.requires.some_record c.if-first_repeat-records.false in
+    let d = c.loop-q.invariant.2 h.offs h.kids h.ready in
+    omega (arith, d.room, L.copies_length _ _ _ _ _ _ _ _ _ _ d)
+
+pub slice_bounds-copy_to_buffer-end-in-loop-q-2 : goal.slice_bounds-copy_to_buffer-end-in-loop-q-2
+slice_bounds-copy_to_buffer-end-in-loop-q-2 t c =
+    let h = L.go_inside c.args.first_repeat c.args.records.now c.args.start c.requires.lo c.requires.off c.requires.its c.args.part.now c.requires.whole c.requires.ready c.requires.some_record c.if-first_repeat-records.false in
+    let d = c.loop-q.invariant.2 h.offs h.kids h.ready in
+    sym (length-take-le c.loop-q.k c.loop-q.part (omega (arith, d.room, L.copies_length _ _ _ _ _ _ _ _ _ _ d)))
