@@ -2,14 +2,10 @@
 use mathlib.Core.Path.{◌≡◌, sym}
 use Prim.Native.Nat.{ℕ}
 use lib.ListN.{length, replicate, length-replicate}
-use Rattle.replay_builds.proofs.work_room.Statement.{statement}
-use Rattle.replay_builds.proofs.work_room.Tie as tie
+use Rattle.replay_builds.proofs.work_room.Goals as goal
 
 counted : (n : ℕ) → n ≡ length {A = ℕ} (replicate n 0)
 counted n = sym (length-replicate {A = ℕ} n 0)
 
-returns : tie.Need-returns
+pub returns : goal.returns
 returns c = counted 5856
-
-pub work_room_spec : {M : Type 1} → statement M
-work_room_spec = tie.close (tie.spec returns)
