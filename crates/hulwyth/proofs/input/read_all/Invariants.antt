@@ -1,5 +1,5 @@
 -- `hulwyth::input::read_all` meets its contract. The invariant: no more bytes are counted than there is room for. Assumes nothing.
-use Rattle.std.proofs.Common.{◌≡◌, ◌-◌, ◌≤◌, length, rules}
+use Rattle.std.proofs.Common.{◌≡◌, ◌-◌, ◌≤◌, length}
 use Rattle.hulwyth.proofs.input.read_all.Given as goal
 
 abbrev pub invariant-loop-count : goal.invariant-loop-count

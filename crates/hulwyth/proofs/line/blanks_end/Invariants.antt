@@ -1,5 +1,5 @@
 -- `hulwyth::line::blanks_end` meets its contract. The invariant: the place is between the first and the end. Assumes nothing.
-use Rattle.std.proofs.Common.{◌-◌, ◌≤◌, length, rules}
+use Rattle.std.proofs.Common.{◌-◌, ◌≤◌, length}
 use Rattle.hulwyth.proofs.line.blanks_end.Given as goal
 
 abbrev pub invariant-loop-at : goal.invariant-loop-at

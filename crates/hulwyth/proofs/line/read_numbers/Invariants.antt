@@ -1,5 +1,5 @@
 -- `hulwyth::line::read_numbers` is safe and ends. The invariant: place and count are in range, `out` is as long. Assumes nothing.
-use Rattle.std.proofs.Common.{◌≡◌, ◌-◌, ◌≤◌, length, arith, length-set, rules}
+use Rattle.std.proofs.Common.{◌≡◌, ◌-◌, ◌≤◌, length}
 use Rattle.hulwyth.proofs.line.read_numbers.Given as goal
 
 abbrev pub invariant-loop-i : goal.invariant-loop-i

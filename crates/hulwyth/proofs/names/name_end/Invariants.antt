@@ -1,5 +1,5 @@
 -- `hulwyth::names::name_end` meets its contract. The invariant: the place is between the first and the limit. Assumes nothing.
-use Rattle.std.proofs.Common.{◌-◌, ◌≤◌, rules}
+use Rattle.std.proofs.Common.{◌-◌, ◌≤◌}
 use Rattle.hulwyth.proofs.names.name_end.Given as goal
 
 abbrev pub invariant-loop-at : goal.invariant-loop-at

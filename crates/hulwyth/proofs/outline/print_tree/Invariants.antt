@@ -1,5 +1,5 @@
 -- `hulwyth::outline::print_tree` is safe and ends: each turn takes the next cell, and there is room for its notes. Assumes nothing.
-use Rattle.std.proofs.Common.{◌≡◌, ◌-◌, ◌/◌, ◌≤◌, length, rules}
+use Rattle.std.proofs.Common.{◌≡◌, ◌-◌, ◌/◌, ◌≤◌, length}
 use Rattle.tree.specs.Cells.{cell_width}
 use Rattle.hulwyth.proofs.outline.print_tree.Given as goal
 

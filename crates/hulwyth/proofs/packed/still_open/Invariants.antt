@@ -1,5 +1,5 @@
 -- `hulwyth::packed::still_open` meets its contract. The invariant: the count has not grown. Assumes nothing.
-use Rattle.std.proofs.Common.{◌≤◌, rules}
+use Rattle.std.proofs.Common.{◌≤◌}
 use Rattle.hulwyth.proofs.packed.still_open.Given as goal
 
 abbrev pub invariant-loop-count : goal.invariant-loop-count

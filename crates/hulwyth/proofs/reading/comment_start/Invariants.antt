@@ -1,5 +1,5 @@
 -- `hulwyth::reading::comment_start` meets its contract. The invariant: the place is between the first and the end. Assumes nothing.
-use Rattle.std.proofs.Common.{◌-◌, ◌≤◌, rules}
+use Rattle.std.proofs.Common.{◌-◌, ◌≤◌}
 use Rattle.hulwyth.proofs.reading.comment_start.Given as goal
 
 abbrev pub invariant-loop-at : goal.invariant-loop-at

@@ -1,5 +1,5 @@
 -- `hulwyth::reading::line_of` is safe and ends: each turn starts behind the line before, and lines are no more than bytes. Assumes nothing.
-use Rattle.std.proofs.Common.{◌+◌, ◌-◌, ◌≤◌, length, rules}
+use Rattle.std.proofs.Common.{◌+◌, ◌-◌, ◌≤◌, length}
 use Rattle.hulwyth.proofs.reading.line_of.Given as goal
 
 abbrev pub invariant-loop-at : goal.invariant-loop-at

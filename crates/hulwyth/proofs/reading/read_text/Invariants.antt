@@ -1,5 +1,5 @@
 -- `hulwyth::reading::read_text` meets its contract. The invariant: the records so far are held, lines are no more than bytes. Assumes nothing.
-use Rattle.std.proofs.Common.{◌≡◌, ◌+◌, ◌-◌, ◌≤◌, length, rules}
+use Rattle.std.proofs.Common.{◌≡◌, ◌+◌, ◌-◌, ◌≤◌, length}
 use Rattle.hulwyth.proofs.reading.read_text.Given as goal
 
 abbrev pub invariant-loop-at : goal.invariant-loop-at

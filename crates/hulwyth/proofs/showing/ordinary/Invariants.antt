@@ -1,5 +1,5 @@
 -- `hulwyth::showing::ordinary` is safe and ends: each turn takes the next record and counts at most one. Assumes nothing.
-use Rattle.std.proofs.Common.{◌≡◌, ◌-◌, ◌/◌, ◌≤◌, length, rules}
+use Rattle.std.proofs.Common.{◌≡◌, ◌-◌, ◌/◌, ◌≤◌, length}
 use Rattle.hulwyth.proofs.showing.ordinary.Given as goal
 
 abbrev pub invariant-loop-i : goal.invariant-loop-i

@@ -1,5 +1,5 @@
 -- `hulwyth::tables::print_cells` is safe and ends: each turn takes the next cell, of which there are a seventh as many as words. Assumes nothing.
-use Rattle.std.proofs.Common.{◌≡◌, ◌-◌, ◌/◌, ◌≤◌, length, rules}
+use Rattle.std.proofs.Common.{◌≡◌, ◌-◌, ◌/◌, ◌≤◌, length}
 use Rattle.tree.specs.Cells.{cell_width}
 use Rattle.hulwyth.proofs.tables.print_cells.Given as goal
 

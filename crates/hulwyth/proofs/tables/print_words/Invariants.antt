@@ -1,5 +1,5 @@
 -- `hulwyth::tables::print_words` is safe and ends: each turn takes the next record, of which there are a quarter as many as words. Assumes nothing.
-use Rattle.std.proofs.Common.{◌≡◌, ◌-◌, ◌/◌, ◌≤◌, length, rules}
+use Rattle.std.proofs.Common.{◌≡◌, ◌-◌, ◌/◌, ◌≤◌, length}
 use Rattle.hulwyth.proofs.tables.print_words.Given as goal
 
 abbrev pub invariant-loop-i : goal.invariant-loop-i
