@@ -2,7 +2,7 @@
 // two bytes of a page hold how many of those behind them are used.
 ghost use Rattle.std.specs.Prelude.{◌≤◌, length};
 
-use core::alloc::AllocError;
+use std::alloc::AllocError;
 use std::io::{Stdout, Write};
 
 // A page, and the output that it is written to.
