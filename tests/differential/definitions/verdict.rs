@@ -7,11 +7,14 @@ use std::process::Command;
 use crate::answers::Input;
 use crate::antt::{File, Folder};
 
+/// What an error of a computation that was given up says: it took too many steps, too much of the stack or too much memory.
+const GIVEN_UP: [&str; 3] = ["step limit", "deep recursion", "memory limit"];
+
 /// A case that is not proved: its file and its number in it, its input and what the prover says.
 pub struct Difference {
     pub case: String,
     pub input: Input,
-    /// The prover ran out of steps, so that nothing is known of the case.
+    /// The prover gave the computation up, so that nothing is known of the case.
     pub unknown: bool,
     pub said: String,
 }
@@ -53,7 +56,7 @@ fn differences(text: &str, files: &[File]) -> Vec<Difference> {
         found.push(Difference {
             case: format!("{} {number}", file.name),
             input: file.inputs[number].clone(),
-            unknown: line.contains("step limit"),
+            unknown: GIVEN_UP.iter().any(|limit| line.contains(limit)),
             said: said(&lines[at..]),
         });
     }
