@@ -3,7 +3,7 @@ ghost use Rattle.std.specs.Prelude.{◌≡◌, ◌≤◌, length};
 
 use crate::messages::{print_problem, print_refusal};
 use crate::options::Options;
-use crate::output::{Page, put};
+use crate::output::put;
 use crate::problem::is_fine;
 use crate::reading::read_text;
 use crate::rooms;
@@ -36,7 +36,7 @@ fn built(
 
 // Builds the tree of a list in the rooms that are lent, and shows it or says why the list is refused.
 fn build_within(
-    page: &mut Page,
+    page: &mut [u8],
     text: &[u8],
     names: &[u8],
     numbers: Numbers,
@@ -61,7 +61,7 @@ fn build_within(
 
 // Builds the tree of a list.
 fn build_list(
-    page: &mut Page,
+    page: &mut [u8],
     text: &[u8],
     names: &[u8],
     settings: &[u64],
@@ -81,7 +81,7 @@ fn build_list(
 }
 
 // Reads the list of a text, and builds it or says what is wrong with the text.
-pub fn run(page: &mut Page, text: &[u8], options: Options) {
+pub fn run(page: &mut [u8], text: &[u8], options: Options) {
     let mut settings = [UNSET; 6];
     let mut names = rooms::names();
     let mut records = rooms::records();

@@ -1,7 +1,7 @@
 // The text that the program reads: from the file that an argument names, or from standard input.
 ghost use Rattle.std.specs.Prelude.{◌≤◌, length};
 
-use crate::output::{Page, put};
+use crate::output::put;
 use std::env::Env;
 use std::fs::File;
 use std::io::{Read, Stdin};
@@ -50,7 +50,7 @@ pub fn read_all<R: Read>(from: &mut R, room: &mut [u8]) -> Input
 }
 
 // Names what the text comes from, behind what is said of it.
-fn put_source(page: &mut Page, said: &[u8], path: &[u8]) {
+fn put_source(page: &mut [u8], said: &[u8], path: &[u8]) {
     put(page, said);
     if check::same(path, b"-") {
         put(page, b"standard input\n");
@@ -72,7 +72,7 @@ pub fn argument(rt: HostRuntime, i: usize, word: &mut [u8]) -> usize
 }
 
 // Says that the text of argument `file`, or of standard input where it is 0, could not be read to its end.
-pub fn print_unread(rt: HostRuntime, page: &mut Page, file: usize) {
+pub fn print_unread(rt: HostRuntime, page: &mut [u8], file: usize) {
     if file == 0 {
         put_source(page, b"cannot read ", b"-");
         return;
@@ -91,7 +91,7 @@ fn file_of(rt: HostRuntime, path: &[u8]) -> Option<File> {
 }
 
 // The source that a path names, where - is standard input; none, after a message, where it cannot be opened.
-fn opened(rt: HostRuntime, page: &mut Page, path: &[u8]) -> Source {
+fn opened(rt: HostRuntime, page: &mut [u8], path: &[u8]) -> Source {
     if check::same(path, b"-") {
         return Source::Input(rt.stdin());
     }
@@ -105,7 +105,7 @@ fn opened(rt: HostRuntime, page: &mut Page, path: &[u8]) -> Source {
 }
 
 // The source that argument `file` names, or standard input where it is 0; none, after a message, where it cannot be opened.
-pub fn source_of(rt: HostRuntime, page: &mut Page, file: usize) -> Source {
+pub fn source_of(rt: HostRuntime, page: &mut [u8], file: usize) -> Source {
     if file == 0 {
         return Source::Input(rt.stdin());
     }

@@ -21,7 +21,7 @@ mod tables;
 
 use input::{Input, Source};
 use options::Options;
-use output::{Page, put};
+use output::put;
 
 // Reads the text of a source, as far as the room goes.
 fn read_source(source: Source, room: &mut [u8]) -> Input
@@ -44,7 +44,7 @@ fn read_source(source: Source, room: &mut [u8]) -> Input
 }
 
 // Reads the text that is asked for, and shows what is made of it or says why it cannot be read.
-fn read(rt: HostRuntime, page: &mut Page, options: Options) {
+fn read(rt: HostRuntime, page: &mut [u8], options: Options) {
     let from = input::source_of(rt, page, options.file);
     if let Source::Nothing = from {
         return;
@@ -67,7 +67,7 @@ fn read(rt: HostRuntime, page: &mut Page, options: Options) {
 }
 
 // Does what the arguments ask for, or says which of them means nothing.
-fn answer(rt: HostRuntime, page: &mut Page, options: Options) {
+fn answer(rt: HostRuntime, page: &mut [u8], options: Options) {
     if options.help {
         messages::print_help(page);
         return;
@@ -79,9 +79,8 @@ fn answer(rt: HostRuntime, page: &mut Page, options: Options) {
     read(rt, page, options);
 }
 
-fn main(rt: HostRuntime) -> std::io::Result<()> {
-    let mut page = output::empty_page(rt)?;
+fn main(rt: HostRuntime) {
+    let mut page = io::large_buffer();
     answer(rt, &mut page, options::asked(rt));
     output::flush(&mut page);
-    Ok(())
 }

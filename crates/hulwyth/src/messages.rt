@@ -1,9 +1,9 @@
 // What is said of a text at fault, and of a refusal.
-use crate::output::{Page, put, put_number};
+use crate::output::{put, put_number};
 use crate::problem::Problem;
 
 // What is wrong with a name.
-fn print_name_problem(page: &mut Page, problem: Problem) {
+fn print_name_problem(page: &mut [u8], problem: Problem) {
     match problem {
         Problem::NoName => put(page, b": the name is missing\n"),
         Problem::LongName => put(page, b": the name is longer than 32 bytes\n"),
@@ -13,7 +13,7 @@ fn print_name_problem(page: &mut Page, problem: Problem) {
 }
 
 // What is wrong with a line that starts with a word, or with a record more than there is room for.
-fn print_word_problem(page: &mut Page, problem: Problem) {
+fn print_word_problem(page: &mut [u8], problem: Problem) {
     match problem {
         Problem::Unknown => put(
             page,
@@ -29,7 +29,7 @@ fn print_word_problem(page: &mut Page, problem: Problem) {
 }
 
 // What is wrong with a line.
-pub fn print_problem(page: &mut Page, problem: Problem, line: usize) {
+pub fn print_problem(page: &mut [u8], problem: Problem, line: usize) {
     put_number(page, b"line ", line as u64);
     match problem {
         Problem::Missing => put(page, b": a number is missing\n"),
@@ -47,7 +47,7 @@ pub fn print_problem(page: &mut Page, problem: Problem, line: usize) {
 }
 
 // What a refusal means that is due to the room that this program has.
-fn print_little_room(page: &mut Page, number: u32) {
+fn print_little_room(page: &mut [u8], number: u32) {
     match number {
         11 => put(
             page,
@@ -70,7 +70,7 @@ fn print_little_room(page: &mut Page, number: u32) {
 }
 
 // What a refusal means that names no place, or a cell.
-fn print_other(page: &mut Page, number: u32) {
+fn print_other(page: &mut [u8], number: u32) {
     match number {
         1 => put(page, b": there are more than 65536 types\n"),
         2 => put(page, b": the bound is above 65535\n"),
@@ -80,7 +80,7 @@ fn print_other(page: &mut Page, number: u32) {
 }
 
 // What a refusal means that names a record.
-fn print_record_fault(page: &mut Page, number: u32) {
+fn print_record_fault(page: &mut [u8], number: u32) {
     match number {
         6 => put(page, b": its id is not below the number of types\n"),
         7 => put(page, b": it starts after its end\n"),
@@ -100,13 +100,13 @@ fn print_record_fault(page: &mut Page, number: u32) {
 }
 
 // A refusal in words that names no place, or a cell.
-pub fn print_refused(page: &mut Page, number: u32) {
+pub fn print_refused(page: &mut [u8], number: u32) {
     put_number(page, b"refused ", number as u64);
     print_other(page, number);
 }
 
 // A refusal of a list in words. Of a record at fault: its number, counted from 0, and its line in the text.
-pub fn print_refusal(page: &mut Page, number: u32, place: usize, text: &[u8]) {
+pub fn print_refusal(page: &mut [u8], number: u32, place: usize, text: &[u8]) {
     if number < 6 {
         print_refused(page, number);
         return;
@@ -126,14 +126,14 @@ pub fn print_refusal(page: &mut Page, number: u32, place: usize, text: &[u8]) {
 }
 
 // The options, one a line.
-fn print_options(page: &mut Page) {
+fn print_options(page: &mut [u8]) {
     put(page, b"  --cells     shows the cells of the tree, too\n");
     put(page, b"  --words     shows its packed words, too\n");
     put(page, b"  -h, --help  shows this text, and nothing else\n\n");
 }
 
 // How to use the program.
-pub fn print_help(page: &mut Page) {
+pub fn print_help(page: &mut [u8]) {
     put(page, b"usage: hulwyth [--cells] [--words] [FILE]\n\n");
     put(
         page,
@@ -151,7 +151,7 @@ pub fn print_help(page: &mut Page) {
 }
 
 // Says how many ordinary records of a list the listing lacks, if any.
-pub fn print_missing(page: &mut Page, ordinary: usize, listed: usize) {
+pub fn print_missing(page: &mut [u8], ordinary: usize, listed: usize) {
     if ordinary <= listed {
         return;
     }

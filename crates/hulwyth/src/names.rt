@@ -2,7 +2,7 @@
 ghost use Rattle.std.specs.Prelude.{◌≡◌, ◌≤◌, length};
 
 use crate::line::{Value, blanks_end, value_of, word_end};
-use crate::output::{Page, put, put_digits};
+use crate::output::{put, put_digits};
 use crate::problem::Problem;
 
 // How many ids can have a name, and how many bytes a name has room for.
@@ -68,7 +68,7 @@ fn name_end(names: &[u8], from: usize, limit: usize) -> usize
 }
 
 // An id and the name that it has, if any.
-pub fn print_id(page: &mut Page, names: &[u8], id: u32)
+pub fn print_id(page: &mut [u8], names: &[u8], id: u32)
     requires { 32768 ≡ length names.now }
 {
     put_digits(page, id as u64);

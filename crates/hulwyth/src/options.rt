@@ -1,5 +1,5 @@
 // The arguments that the program is started with.
-use crate::output::{Page, put, put_number};
+use crate::output::{put, put_number};
 use std::env::{Env, FillError};
 
 // What they ask for.
@@ -97,7 +97,7 @@ pub fn asked(rt: HostRuntime) -> Options {
 }
 
 // Says what is wrong with a word that is no argument.
-fn print_wrong(page: &mut Page, word: &[u8]) {
+fn print_wrong(page: &mut [u8], word: &[u8]) {
     if is_option(word) {
         put(page, b"unknown option ");
         return;
@@ -106,7 +106,7 @@ fn print_wrong(page: &mut Page, word: &[u8]) {
 }
 
 // Says why argument i means nothing.
-pub fn print_bad(rt: HostRuntime, page: &mut Page, i: usize) {
+pub fn print_bad(rt: HostRuntime, page: &mut [u8], i: usize) {
     let mut word = io::buffer();
     match rt.arg(i, &mut word) {
         Ok(count) => {

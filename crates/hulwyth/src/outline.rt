@@ -4,12 +4,12 @@ ghost use Rattle.std.specs.Prelude.{◌≡◌, ◌+◌, ◌*◌, ◌≤◌, leng
 ghost use Rattle.tree.specs.Cells.{cell_width};
 
 use crate::names::print_id;
-use crate::output::{Page, put};
+use crate::output::put;
 use crate::packed::{print_indent, print_part_at, print_range};
 use tree::{CELL_WIDTH, COUNT, FIRST, ID, KIND, LENGTH, NEXT, POSITION};
 
 // What a cell is: a tree is shown by its id.
-fn print_label(page: &mut Page, names: &[u8], kind: u32, id: u32)
+fn print_label(page: &mut [u8], names: &[u8], kind: u32, id: u32)
     requires { 32768 ≡ length names.now }
 {
     if kind == 1 {
@@ -24,7 +24,7 @@ fn print_label(page: &mut Page, names: &[u8], kind: u32, id: u32)
 }
 
 // The end of a cell's line: a repeat tree is marked.
-fn print_mark(page: &mut Page, first_repeat: u32, kind: u32, id: u32) {
+fn print_mark(page: &mut [u8], first_repeat: u32, kind: u32, id: u32) {
     if kind == 1 {
         if first_repeat <= id {
             put(page, b" repeat\n");
@@ -36,7 +36,7 @@ fn print_mark(page: &mut Page, first_repeat: u32, kind: u32, id: u32) {
 
 // The line of a cell. Its end can be above 32 bits: the length of the top is any that is given.
 fn print_cell(
-    page: &mut Page,
+    page: &mut [u8],
     names: &[u8],
     first_repeat: u32,
     kind: u32,
@@ -62,7 +62,7 @@ fn note(notes: &mut [u32], x: u32, base: u32, depth: u32) {
 
 // The line of cell i, counted from 0, and of a part's records.
 fn print_one(
-    page: &mut Page,
+    page: &mut [u8],
     names: &[u8],
     first_repeat: u32,
     cells: &[u32],
@@ -100,7 +100,7 @@ fn print_one(
 
 // The line of cell i, counted from 0, at what is noted for it.
 fn print_noted(
-    page: &mut Page,
+    page: &mut [u8],
     names: &[u8],
     first_repeat: u32,
     cells: &[u32],
@@ -146,7 +146,7 @@ fn note_links(cells: &[u32], i: usize, notes: &mut [u32])
 
 // The line of cell i, counted from 0, and the notes that it leaves.
 fn print_next(
-    page: &mut Page,
+    page: &mut [u8],
     names: &[u8],
     first_repeat: u32,
     cells: &[u32],
@@ -166,7 +166,7 @@ fn print_next(
 
 // The outline of a tree whose top starts at `start`.
 pub fn print_tree(
-    page: &mut Page,
+    page: &mut [u8],
     names: &[u8],
     first_repeat: u32,
     start: u32,

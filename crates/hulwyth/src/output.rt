@@ -2,18 +2,8 @@
 // two bytes of a page hold how many of those behind them are used.
 ghost use Rattle.std.specs.Prelude.{◌≤◌, length};
 
-use std::alloc::AllocError;
-use std::io::{Stdout, Write};
-
-// A page, and the output that it is written to.
-#[derive(Drop)]
-pub struct Page {
-    output: Stdout,
-    bytes: Vec<u8>,
-}
-
-// The bytes of a page, those that hold their number too.
-const SIZE: usize = 65536;
+// Standard output.
+const OUTPUT: i32 = 1;
 
 // The bytes that a page holds at most.
 const MOST: usize = 65534;
@@ -51,23 +41,14 @@ fn note_used(page: &mut [u8], used: usize)
     page[1] = low(used);
 }
 
-// A page of which nothing is used.
-pub fn empty_page(rt: HostRuntime) -> Result<Page, AllocError> {
-    let bytes = vec![in rt.alloc(); 0; SIZE]?;
-    Ok(Page {
-        output: rt.stdout(),
-        bytes: bytes,
-    })
-}
-
-// Writes the bytes of a page that are used, and starts it anew. What cannot be written is lost.
-pub fn flush(page: &mut Page) {
-    if page.bytes.len() < 2 {
+// Writes the bytes of a page that are used, and starts it anew.
+pub fn flush(page: &mut [u8]) {
+    if page.len() < 2 {
         return;
     }
-    let used = least(number(page.bytes[0], page.bytes[1]), page.bytes.len() - 2);
-    let _written = page.output.write_all(&page.bytes[2..2 + used]);
-    note_used(&mut page.bytes, 0);
+    let used = least(number(page[0], page[1]), page.len() - 2);
+    io::write_all(OUTPUT, &page[2..2 + used]);
+    note_used(page, 0);
 }
 
 // Puts a byte at a place, counted from 0, if the page has it.
@@ -81,22 +62,22 @@ fn put_at(page: &mut [u8], at: usize, byte: u8)
 }
 
 // Puts a byte behind those that are used, after writing them where the page is full.
-fn put_byte(page: &mut Page, byte: u8) {
-    if page.bytes.len() < 2 {
+fn put_byte(page: &mut [u8], byte: u8) {
+    if page.len() < 2 {
         return;
     }
-    let used = number(page.bytes[0], page.bytes[1]);
+    let used = number(page[0], page[1]);
     if used < MOST {
-        if used + 2 < page.bytes.len() {
-            put_at(&mut page.bytes, used, byte);
+        if used + 2 < page.len() {
+            put_at(page, used, byte);
             return;
         }
     }
     flush(page);
-    put_at(&mut page.bytes, 0, byte);
+    put_at(page, 0, byte);
 }
 
-pub fn put(page: &mut Page, text: &[u8]) {
+pub fn put(page: &mut [u8], text: &[u8]) {
     let mut i: usize = 0;
     while i < text.len() {
         put_byte(page, text[i]);
@@ -105,14 +86,14 @@ pub fn put(page: &mut Page, text: &[u8]) {
 }
 
 // A number in decimal digits.
-pub fn put_digits(page: &mut Page, number: u64) {
+pub fn put_digits(page: &mut [u8], number: u64) {
     let mut digits = [0u8; 20];
     let count = io::decimal(number, &mut digits);
     put(page, &digits[..count]);
 }
 
 // A text and a number behind it.
-pub fn put_number(page: &mut Page, text: &[u8], number: u64) {
+pub fn put_number(page: &mut [u8], text: &[u8], number: u64) {
     put(page, text);
     put_digits(page, number);
 }

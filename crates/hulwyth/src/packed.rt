@@ -3,7 +3,7 @@ ghost use Rattle.std.specs.Prelude.{◌≡◌, ◌+◌, ◌<◌, ◌≤◌, leng
 ghost use Rattle.words.specs.Words.{record_width};
 
 use crate::names::print_id;
-use crate::output::{Page, put, put_number};
+use crate::output::{put, put_number};
 use words::RECORD_WIDTH;
 
 // A position counted from a start.
@@ -11,7 +11,7 @@ fn later(start: u32, by: u16) -> u64 {
     start as u64 + by as u64
 }
 
-pub fn print_indent(page: &mut Page, depth: usize) {
+pub fn print_indent(page: &mut [u8], depth: usize) {
     let mut i: usize = 0;
     while i < depth {
         put(page, b"  ");
@@ -19,7 +19,7 @@ pub fn print_indent(page: &mut Page, depth: usize) {
     }
 }
 
-pub fn print_range(page: &mut Page, start: u64, end: u64) {
+pub fn print_range(page: &mut [u8], start: u64, end: u64) {
     put_number(page, b" ", start);
     put_number(page, b"..", end);
 }
@@ -40,7 +40,7 @@ fn still_open(ends: &[u16], held: usize, at: usize) -> usize
 }
 
 // The record of a part at a word offset; `start` is the part's.
-fn print_packed(page: &mut Page, names: &[u8], part: &[u16], at: usize, start: u32, depth: usize)
+fn print_packed(page: &mut [u8], names: &[u8], part: &[u16], at: usize, start: u32, depth: usize)
     requires value { 32768 ≡ length names.now }
     requires record_width_in_bounds { at + record_width ≤ length part.now }
 {
@@ -53,7 +53,7 @@ fn print_packed(page: &mut Page, names: &[u8], part: &[u16], at: usize, start: u
 // The record of a part at a word offset, under those around it, whose end indices are held in `ends`; and its own is held,
 // too. Answers how many are held then.
 fn print_under(
-    page: &mut Page,
+    page: &mut [u8],
     names: &[u8],
     part: &[u16],
     at: usize,
@@ -76,7 +76,7 @@ fn print_under(
 
 // The records of a part, each under the one around it.
 fn print_part(
-    page: &mut Page,
+    page: &mut [u8],
     names: &[u8],
     part: &[u16],
     start: u32,
@@ -106,7 +106,7 @@ fn print_part(
 
 // The part of `count` words from word `first` on.
 pub fn print_part_at(
-    page: &mut Page,
+    page: &mut [u8],
     names: &[u8],
     words: &[u16],
     first: usize,

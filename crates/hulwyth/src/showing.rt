@@ -3,7 +3,7 @@ ghost use Rattle.std.specs.Prelude.{◌≡◌, ◌≤◌, length};
 ghost use Rattle.io.specs.Counts.{IsPrefixLen};
 
 use crate::options::Options;
-use crate::output::{Page, put, put_number};
+use crate::output::{put, put_number};
 use crate::settings::Numbers;
 use crate::{messages, outline, rooms, tables};
 use listing::Listed;
@@ -64,7 +64,7 @@ fn ordinary(records: &[u32], first_repeat: u32) -> usize {
 
 // Lists a tree, and says how many of the ordinary records of its list are missing.
 fn show_list(
-    page: &mut Page,
+    page: &mut [u8],
     names: &[u8],
     numbers: Numbers,
     records: &[u32],
@@ -95,7 +95,7 @@ fn show_list(
 }
 
 // How many records were accepted, and how large their tree is.
-fn print_sizes(page: &mut Page, records: usize, cells: usize, words: usize) {
+fn print_sizes(page: &mut [u8], records: usize, cells: usize, words: usize) {
     put_number(page, b"accepted: records ", records as u64);
     put_number(page, b", cells ", cells as u64);
     put_number(page, b", packed words ", words as u64);
@@ -104,7 +104,7 @@ fn print_sizes(page: &mut Page, records: usize, cells: usize, words: usize) {
 
 // The sizes and the outline of a tree.
 fn show_outline(
-    page: &mut Page,
+    page: &mut [u8],
     names: &[u8],
     numbers: Numbers,
     records: usize,
@@ -131,14 +131,14 @@ fn show_outline(
 }
 
 // The cells, where they are asked for.
-fn show_cells(page: &mut Page, options: Options, cells: &[u32]) {
+fn show_cells(page: &mut [u8], options: Options, cells: &[u32]) {
     if options.cells {
         tables::print_cells(page, cells);
     }
 }
 
 // The packed words, where they are asked for.
-fn show_words(page: &mut Page, options: Options, words: &[u16]) {
+fn show_words(page: &mut [u8], options: Options, words: &[u16]) {
     if options.words {
         tables::print_words(page, words);
     }
@@ -146,7 +146,7 @@ fn show_words(page: &mut Page, options: Options, words: &[u16]) {
 
 // Shows a tree, with its cells and words where they are asked for.
 fn show_tree(
-    page: &mut Page,
+    page: &mut [u8],
     names: &[u8],
     numbers: Numbers,
     options: Options,
@@ -175,7 +175,7 @@ fn show_tree(
 
 // Shows the tree that is in the first cells and packed words, so many of each.
 pub fn show_front(
-    page: &mut Page,
+    page: &mut [u8],
     names: &[u8],
     numbers: Numbers,
     options: Options,

@@ -3,7 +3,7 @@ ghost use Rattle.std.specs.Prelude.{◌≡◌, ◌+◌, ◌≤◌, length};
 ghost use Rattle.tree.specs.Listing.{line_width};
 
 use crate::names::print_id;
-use crate::output::{Page, put, put_number};
+use crate::output::{put, put_number};
 use tree::{CELL_WIDTH, LINE_WIDTH};
 use words::RECORD_WIDTH;
 
@@ -16,7 +16,7 @@ fn wider(word: u16) -> u64 {
 }
 
 // The words of a cell.
-fn print_row(page: &mut Page, row: &[u32]) {
+fn print_row(page: &mut [u8], row: &[u32]) {
     let mut i: usize = 0;
     while i < row.len() {
         put_number(page, b" ", wide(row[i]));
@@ -26,7 +26,7 @@ fn print_row(page: &mut Page, row: &[u32]) {
 }
 
 // The cells, one a line, each with its number.
-pub fn print_cells(page: &mut Page, cells: &[u32]) {
+pub fn print_cells(page: &mut [u8], cells: &[u32]) {
     put(page, b"cells: kind id position length first count next\n");
     let count = cells.len() / CELL_WIDTH;
     let mut i: usize = 0;
@@ -39,7 +39,7 @@ pub fn print_cells(page: &mut Page, cells: &[u32]) {
 }
 
 // The words of a packed record.
-fn print_packed(page: &mut Page, row: &[u16]) {
+fn print_packed(page: &mut [u8], row: &[u16]) {
     let mut i: usize = 0;
     while i < row.len() {
         put_number(page, b" ", wider(row[i]));
@@ -49,7 +49,7 @@ fn print_packed(page: &mut Page, row: &[u16]) {
 }
 
 // The packed words, a record's four a line, each with its offset.
-pub fn print_words(page: &mut Page, words: &[u16]) {
+pub fn print_words(page: &mut [u8], words: &[u16]) {
     put(page, b"words: id start end end-index\n");
     let count = words.len() / RECORD_WIDTH;
     let mut i: usize = 0;
@@ -65,14 +65,14 @@ pub fn print_words(page: &mut Page, words: &[u16]) {
 }
 
 // Where a node of a listing starts and ends.
-fn print_bounds(page: &mut Page, start: u32, end: u32) {
+fn print_bounds(page: &mut [u8], start: u32, end: u32) {
     put_number(page, b" ", start as u64);
     put_number(page, b" ", end as u64);
     put(page, b"\n");
 }
 
 // A line of a listing: depth, id with its name, start, end.
-fn print_line(page: &mut Page, names: &[u8], lines: &[u32], at: usize)
+fn print_line(page: &mut [u8], names: &[u8], lines: &[u32], at: usize)
     requires value { 32768 ≡ length names.now }
     requires line_width_in_bounds { at + line_width ≤ length lines.now }
 {
@@ -83,7 +83,7 @@ fn print_line(page: &mut Page, names: &[u8], lines: &[u32], at: usize)
 }
 
 // The lines of a listing.
-pub fn print_lines(page: &mut Page, names: &[u8], lines: &[u32])
+pub fn print_lines(page: &mut [u8], names: &[u8], lines: &[u32])
     requires { 32768 ≡ length names.now }
 {
     put(page, b"listing: depth id start end\n");
