@@ -1,4 +1,5 @@
-/* Hulwyth's exported calls. Link libgateway.a, which `rt staticlib gateway` writes; of the C library it needs memset alone.
+/* Hulwyth's exported calls. Link libgateway.a, which `rt lib` in crates/gateway writes to out/ there; of the C library it needs memset
+ * alone.
  *
  *   record lists   hulwyth_check        checks a record list
  *                  hulwyth_build        writes the tree of a record list
@@ -30,8 +31,8 @@
  *
  * Native stack
  *
- * What the calls take of it, the parameters included, was measured on x86-64 on the worst inputs known; it is not proved.
- * tests/c/stack measures it again:
+ * What the calls take of it, the parameters included, was measured on x86-64 on the worst inputs known, in an archive of the older kit;
+ * it is not proved. tests/c/stack measures it again:
  *
  *   hulwyth_build         1.6 MB  1,573,239 bytes where 16,383 records are packed, each in the next; no more can be
  *   the part calls        40 KB   33,111 bytes for 3 records as for 16,383

@@ -5,7 +5,7 @@ use mathlib.Core.List.{List, [], ◌∷◌}
 use Prim.Native.Nat.{ℕ, ◌+◌, ◌*◌, ◌≤◌}
 use native.Mathlib.Omega.{arith}
 use lib.ListN.{length, get_or}
-use Rattle.tree.specs.Trees.{Trees, ◌⊕◌, siblings}
+use Rattle.tree.specs.Trees.{Trees, ◌⊕◌}
 use Rattle.tree.specs.Balance.{SetType, total, groups, each}
 use Rattle.tree.proofs.ListingLaws.{⊕-assoc}
 use Rattle.tree.proofs.FuelLaws.{total-⊕}

@@ -2,13 +2,12 @@
 use mathlib.Core.Path.{◌≡◌, refl, sym, ap, subst, ◌∙◌}
 use mathlib.Core.Bool.{true, false, not, cond}
 use mathlib.Core.List.{List, [], ◌∷◌}
-use Prim.Native.Nat.{ℕ, ◌+◌, ◌-◌, ◌*◌, ◌/◌, ◌%◌, ◌≤◌, ◌<◌, min}
+use Prim.Native.Nat.{ℕ, ◌+◌, ◌-◌, ◌*◌, ◌/◌, ◌%◌, ◌≤◌, ◌<◌}
 use native.Mathlib.Omega.{arith}
 use lib.Dec.{ltb, leb}
 use lib.ListN.{length, get_or, set, length-set}
 use Rattle.words.specs.Words.{start_of, end_of, last_of}
 use Rattle.part.specs.Open.{Stack, Passed, Tested}
-use Rattle.part.specs.Part.{greatest_end, fault}
 use Rattle.part.specs.Rebased.{rebased}
 use Rattle.part.specs.declared.Progress.{Progress}
 use Rattle.part.proofs.Counts.{Counted, counted_none, counted_next, counted_greatest}

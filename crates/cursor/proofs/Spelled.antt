@@ -2,13 +2,13 @@
 use mathlib.Core.Path.{◌≡◌, refl}
 use mathlib.Core.Bool.{Bool, true, false, cond}
 use mathlib.Core.List.{List}
-use mathlib.Core.Option.{Option, some}
+use mathlib.Core.Option.{Option}
 use Prim.Native.Nat.{ℕ, zero, suc, ◌+◌, ◌-◌, ◌*◌, ◌≤◌, ◌<◌}
 use native.Mathlib.Omega.{arith}
 use borrow.Author.Tests.{le-leb, lt-leb, ltb-true, ltb-false}
 use lib.Dec.{leb, ltb}
 use lib.ListN.{get_or}
-use Rattle.tree.specs.Items.{Items, mark, span, repeats, items, records, first}
+use Rattle.tree.specs.Items.{Items, mark, span, repeats, records, first}
 use Rattle.tree.proofs.Reading.{after}
 use Rattle.tree.specs.Pack.{width, words}
 use Rattle.cursor.specs.Spells.{Spells, Marked, Passed, Stands, Standing, skips}

@@ -12,7 +12,6 @@ use lib.ListN.{length, get_or, length-append}
 use Rattle.records.specs.Forest.{Forest, empty, add, count, postfix}
 use Rattle.tree.specs.Items.{Items, mark, span, same, repeats, items, records}
 use Rattle.tree.proofs.RecordCounts.{records_items}
-use Rattle.tree.specs.Pack.{words}
 use Rattle.records.specs.Parse.{parse}
 use Rattle.records.specs.Check.{Accepted}
 use Rattle.records.proofs.AcceptLaws.{accepted_list, accepted_nested}

@@ -1,6 +1,9 @@
 // The exported functions, for C and Rust: the number is returned, and place and counts go to the front of `info`, as many as it
 // holds. Every call tells two counts, the part check three; one that a call does not have is 0.
+#![tactic(auto)]
+
 ghost use Rattle.std.specs.Prelude.{◌≡◌, [], ◌∷◌, map};
+ghost use lib.ListN;
 ghost use lib.ListN.{length, set};
 ghost use Rattle.records.specs.Check.{check};
 ghost use Rattle.tree.specs.Calls.{build_call};

@@ -6,7 +6,7 @@ use native.Mathlib.Omega.{arith}
 use native.Mathlib.Nat.{add-zero}
 use lib.ListN.{length, get_or, length-append}
 use Rattle.tree.specs.Trees.{Trees, nil, tree, part, ◌⊕◌, nodes, siblings}
-use Rattle.tree.specs.Cells.{relative, absolute, packed, cells, leading, following}
+use Rattle.tree.specs.Cells.{relative, absolute, packed, leading, following}
 use Rattle.tree.specs.Materialise.{unpack, materialise}
 use Rattle.tree.proofs.ListingLaws.{⊕-assoc}
 use Rattle.tree.proofs.PackLaws.{nodes-⊕}

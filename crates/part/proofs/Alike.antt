@@ -1,13 +1,13 @@
 -- Two lists of words whose records have the same ids and end indices, and start at their ends or before: they have the same faults.
 -- Assumes nothing.
-use mathlib.Core.Path.{◌≡◌, refl, sym, ◌∙◌}
+use mathlib.Core.Path.{◌≡◌, refl}
 use mathlib.Core.List.{List}
 use Prim.Native.Nat.{ℕ, zero, suc, ◌+◌, ◌*◌, ◌≤◌, ◌<◌}
 use native.Mathlib.Decide.{ℕ_discrete}
 use native.Mathlib.Omega.{arith}
 use borrow.Author.Tests.{le-ltb, eq-eqb, ne_eqb}
 use lib.ListN.{length}
-use Rattle.words.specs.Outcome.{Outcome, accepted, refused, unless_refused}
+use Rattle.words.specs.Outcome.{accepted, unless_refused}
 use Rattle.words.specs.Words.{id_of, start_of, end_of}
 use Rattle.part.specs.Part.{end_index, own_fault, crosses, fault, part_counts, faults_from}
 

@@ -1,5 +1,6 @@
 // The check of a packed part, as validate_buffer of the source does it.
 #![tactic(auto)]
+
 ghost use Rattle.std.specs.Prelude.{◌≡◌, ◌+◌, ◌*◌, ◌/◌, ◌%◌, ◌≤◌, min, max, length};
 ghost use Rattle.words.specs.Words.{record_width};
 ghost use Rattle.part.specs.Part.{end_index, own_fault, faults_from, part_check};

@@ -10,7 +10,7 @@ use lib.ListN.{length, drop, length-append, length-drop}
 use Rattle.words.specs.Words.{id_of}
 use Rattle.words.proofs.Runs.{four_at}
 use Rattle.records.specs.Forest.{line, depth_below}
-use Rattle.tree.specs.Trees.{Trees, nil, tree, part, ◌⊕◌}
+use Rattle.tree.specs.Trees.{Trees, nil, tree, part}
 use Rattle.tree.specs.Materialise.{within, beyond, unpack}
 use Rattle.tree.specs.Listing.{node_line, node_below, listing}
 use Rattle.tree.proofs.ListingLaws.{listing-⊕}

@@ -17,7 +17,7 @@ use Rattle.records.specs.Taking.{finished, Faultless, judged}
 use Rattle.records.proofs.ParseLaws.{nearest_all, farther_all}
 use Rattle.records.proofs.Spelling.{counted, span, fills_all}
 use Rattle.records.proofs.Progress.{Progress, progress_none, Sized, sized_here, fills_here, next_here, all_parsed}
-use Rattle.records.proofs.Ranges.{least, Between, range_between, inner, level, range_least, judged_level, inner_grown, inner_most}
+use Rattle.records.proofs.Ranges.{least, Between, range_between, inner, range_least, judged_level, inner_grown, inner_most}
 
 -- before record i of n: `low` is the lowest record so far, below the first level, to which 10 applies, n for none
 pub record LowestRecord (ws : List ℕ) (n i low : ℕ) : Type 0 where

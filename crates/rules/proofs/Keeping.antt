@@ -9,7 +9,7 @@ use lib.Dec.{ltb, leb, eqb}
 use Rattle.rules.specs.Cell.{Cell, cells_of, is_part, first_child}
 use Rattle.rules.specs.Lowest.{chain, chains, Named, top_broken, kind_broken, id_broken, link_broken, count_broken, place_broken, order_broken, inside_broken, end_broken, part_broken, stray_broken, any_of, broken, next_named, first_named, words_end, lowest_from}
 use lib.ListN.{length, get_or}
-use Rattle.tree.specs.Cells.{kind, cell_width}
+use Rattle.tree.specs.Cells.{cell_width}
 use Rattle.rules.proofs.Tests.{both, neither}
 
 -- the words of cells

@@ -13,7 +13,7 @@ use lib.ListN.{length, get_or}
 use Rattle.words.specs.Outcome.{Outcome, accepted, refused}
 use Rattle.part.specs.Part.{part_check}
 use Rattle.part.proofs.Faults.{part_whole}
-use Rattle.tree.specs.Trees.{Trees, nil, tree, ◌⊕◌, nodes}
+use Rattle.tree.specs.Trees.{Trees, nil, tree, nodes}
 use Rattle.tree.specs.Materialise.{within, beyond, unpack}
 use Rattle.tree.specs.Cells.{id_word}
 use Rattle.tree.proofs.PackLaws.{within_zero, beyond_zero}

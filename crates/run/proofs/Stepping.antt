@@ -10,7 +10,6 @@ use Rattle.tree.specs.Calls.{build_call}
 use Rattle.rules.specs.Calls.{list_call}
 use Rattle.build.specs.Answer.{built_outcome}
 use Rattle.build.specs.declared.Built.{Built}
-use Rattle.build.specs.declared.Built.TheVariants as Built
 use Rattle.listing.specs.Answer.{listed_outcome}
 use Rattle.listing.specs.declared.Listed.{Listed}
 use Rattle.run.specs.Running.{Steps, one_work, none_left, followed, on_built, list_steps, run_call}

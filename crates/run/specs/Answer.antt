@@ -2,7 +2,6 @@
 use Rattle.std.specs.Prelude.{[], ◌∷◌, ℕ}
 use Rattle.words.specs.Outcome.{Outcome, accepted, refused}
 use Rattle.run.specs.declared.Ran.{Ran}
-use Rattle.run.specs.declared.Ran.TheVariants as Ran
 
 abbrev pub ran_outcome : Ran → Outcome
 ran_outcome (Ran.Lines cells words lines) = accepted (cells ∷ words ∷ lines ∷ [])

@@ -3,7 +3,7 @@ use mathlib.Core.Path.{subst, ◌≡◌, refl, ap, sym}
 use mathlib.Core.List.{List, append-nil}
 use mathlib.Core.Bool.{false}
 use mathlib.Core.Option.{Option, some}
-use Prim.Native.Nat.{ℕ, suc, ◌+◌, ◌-◌}
+use Prim.Native.Nat.{ℕ, suc, ◌+◌}
 use native.Mathlib.Omega.{arith}
 use lib.ListN.{length}
 use Rattle.tree.specs.Trees.{Trees, nil, tree, nodes}

@@ -15,7 +15,7 @@ use Rattle.tree.specs.Balance.{in_set}
 use Rattle.tree.specs.Cells.{packed, kind, id_word, tree_cells, unless_none, cell_width}
 use Rattle.words.specs.Words.{put, front}
 use Rattle.words.proofs.Runs.{Fronted, fronted_length, fronted_next, fronted_all}
-use Rattle.store.specs.Store.{likes, word, stored_kind, Node, Holds, Same, told, Readable, tree_cell, part_cell, Writable, Wrote, PartReady, PartWritten}
+use Rattle.store.specs.Store.{likes, stored_kind, Node, Holds, Same, told, Readable, tree_cell, part_cell, Writable, Wrote, PartReady, PartWritten}
 use Rattle.words.proofs.Stores.{put_length, put_in, put_before}
 use Rattle.store.proofs.Frame.{same_less, same_put, frame, tells_cells, tells_trees, readable}
 use Rattle.store.proofs.Unique.{unique}

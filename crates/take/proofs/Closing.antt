@@ -2,11 +2,11 @@
 use mathlib.Core.Path.{◌≡◌, refl, sym, ap, subst, ◌∙◌}
 use mathlib.Core.Bool.{false}
 use mathlib.Core.List.{List, [], ◌∷◌}
-use mathlib.Core.Option.{Option, some}
+use mathlib.Core.Option.{Option}
 use Prim.Native.Nat.{ℕ, ◌+◌, ◌-◌, ◌*◌, ◌/◌, ◌≤◌, ◌<◌}
 use native.Mathlib.Omega.{arith}
 use lib.ListN.{length, get_or}
-use Rattle.tree.specs.Trees.{nil, ◌⊕◌}
+use Rattle.tree.specs.Trees.{◌⊕◌}
 use Rattle.tree.specs.Items.{Items, repeats}
 use Rattle.tree.specs.Groups.{Gathered, gather, finish}
 use Rattle.tree.specs.Build.{walk}

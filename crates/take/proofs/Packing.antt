@@ -9,7 +9,7 @@ use native.Mathlib.Nat.{le_refl}
 use lib.ListN.{length}
 use Rattle.tree.specs.Trees.{part}
 use Rattle.tree.specs.Items.{Items, span, records, first, leftmost}
-use Rattle.tree.specs.Pack.{words, run_from, pack, run_part}
+use Rattle.tree.specs.Pack.{run_from, pack, run_part}
 use Rattle.tree.specs.Groups.{Gathered, gather}
 use Rattle.tree.specs.Build.{walk}
 use Rattle.tree.proofs.Reading.{after}

@@ -24,7 +24,6 @@ use Rattle.pack.specs.declared.Taken.TheVariants.{Packed}
 use Rattle.pack.specs.declared.Taken.TheVariants as variants
 use Rattle.pack.proofs.Held.{takable, filled_same, filled_staged, run_short}
 use Rattle.take.specs.Going.{own_under, Level, Going}
-use Rattle.take.specs.Steps.{Unpacked}
 use Rattle.take.specs.Starting.{PartReady, PartBuilt, pending, Starts, Started}
 use Rattle.take.specs.declared.BuiltNode.{BuiltNode}
 use Rattle.take.specs.declared.PendingNode.{PendingNode}

@@ -7,7 +7,7 @@ use Rattle.tree.specs.Pack.{run_from}
 use Rattle.tree.specs.Groups.{Gathered}
 use Rattle.scan.specs.Walked.{Remembered}
 use Rattle.scan.specs.declared.Memo.{Memo}
-use Rattle.take.specs.Going.{deep, own_under, Going}
+use Rattle.take.specs.Going.{own_under, Going}
 use Rattle.take.specs.declared.Node.{Node}
 use Rattle.take.specs.declared.State.{State}
 

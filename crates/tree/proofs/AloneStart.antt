@@ -1,12 +1,11 @@
 -- "Directly under a repeat tree, a record of its id counts alone, its start is not tested": a walk goes on past such a
 -- record although it starts before the limit. Computed. Assumes nothing.
 use mathlib.Core.Path.{◌≡◌, refl}
-use mathlib.Core.List.{List, [], ◌∷◌}
+use mathlib.Core.List.{[], ◌∷◌}
 use mathlib.Core.Option.{none, some}
-use Prim.Native.Nat.{ℕ}
 use Rattle.records.specs.Forest.{count, behind}
 use Rattle.records.specs.Parse.{nearest, farther, parse_from, parse}
-use Rattle.tree.specs.Trees.{Trees, nil, tree, part, ◌⊕◌, is_nil, last_end}
+use Rattle.tree.specs.Trees.{nil, tree, part, ◌⊕◌, is_nil, last_end}
 use Rattle.tree.specs.Items.{repeats, same, items, records, first, leftmost}
 use Rattle.tree.specs.Pack.{width, words, stopped, early, scan, long, packs, run_from, entry, pack, run_part}
 use Rattle.tree.specs.Groups.{fresh, gather, close, pass, finish}

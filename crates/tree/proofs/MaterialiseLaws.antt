@@ -12,7 +12,7 @@ use borrow.Author.Tests.{le-leb, lt-leb}
 use lib.Dec.{ltb}
 use lib.ListN.{length}
 use Rattle.records.specs.Forest.{line, depth_below}
-use Rattle.tree.specs.Trees.{Trees, nil, tree, part, ◌⊕◌, nodes}
+use Rattle.tree.specs.Trees.{Trees, nil, tree, part, nodes}
 use Rattle.tree.specs.Materialise.{within, beyond, unpack, materialise}
 use Rattle.tree.specs.Listing.{node_line, node_below, listing}
 use Rattle.tree.specs.Cells.{id_word}

@@ -14,7 +14,7 @@ use Rattle.tree.specs.Items.{Items, mark, span, first, leftmost}
 use Rattle.tree.specs.Pack.{early, long, width, words, stopped, scan, packs, run_from, entry, pack}
 use Rattle.tree.specs.Flat.{full, Record, rec, flat_words, held_end, hold, limit, ends}
 use Rattle.tree.proofs.FlatLaws.{floor-≤, Held}
-use Rattle.tree.specs.Ordered.{From, floor, Fits, Spread, Room}
+use Rattle.tree.specs.Ordered.{From, floor, Fits, Room}
 use Rattle.tree.specs.Well.{Short}
 
 short-++ : (us ws : List ℕ) → Short us → Short ws → Short (us ++ ws)

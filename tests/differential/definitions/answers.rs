@@ -206,7 +206,7 @@ impl Rust {
             .given
             .map_or("none".into(), |at| format!("(some {at})"));
         Some(format!(
-            "list-answer {types} {first} {bound} {start} {top} {given} {}\n    ≡ list-rust {} {} {} {} {}",
+            "list_answer {types} {first} {bound} {start} {top} {given} {}\n    ≡ list_rust {} {} {} {} {}",
             antt::list(&records),
             records.len() / RECORD_WIDTH,
             antt::list(&flat.cells),
@@ -240,7 +240,7 @@ impl Rust {
             [depth, line[1], line[2], line[3]]
         });
         Some(format!(
-            "deep-answer {} {} {around} {end} {}\n    ≡ {} ∷ {} ∷ {} ∷ {} ∷ {} ∷ []",
+            "deep_answer {} {} {around} {end} {}\n    ≡ {} ∷ {} ∷ {} ∷ {} ∷ {} ∷ []",
             list.first_repeat,
             list.bound,
             antt::list(list.records()),
@@ -271,7 +271,7 @@ impl Rust {
         let rest = behind_chain(&flatten(&tree), *around, end).len() / CELL_WIDTH;
         let outline = outline(&tree);
         Some(format!(
-            "wide-answer {} {} {around} {end} {empties} {id} {parent} {}\n    ≡ {}",
+            "wide_answer {} {} {around} {end} {empties} {id} {parent} {}\n    ≡ {}",
             list.first_repeat,
             list.bound,
             antt::list(list.records()),
@@ -292,7 +292,7 @@ impl Rust {
         let (types, first, start) = (sample.types, sample.first_repeat, sample.start);
         let (cells, words) = (antt::list(&flat.cells), antt::list(&flat.words));
         format!(
-            "tree-answer {types} {first} {start} {cells} {words}\n    ≡ tree-rust {cells} {words} {} {} {} {} {} {}",
+            "tree_answer {types} {first} {start} {cells} {words}\n    ≡ tree_rust {cells} {words} {} {} {} {} {} {}",
             antt::list(&balanced.cells),
             antt::list(&balanced.words),
             antt::list(&none_first.cells),
@@ -321,7 +321,7 @@ impl Rust {
         }
         written.resize(call.room, BEFORE.into());
         format!(
-            "call-answer {types} {first_repeat} {start} {} {} {} {}\n    ≡ {} ∷ {} ∷ []",
+            "call_answer {types} {first_repeat} {start} {} {} {} {}\n    ≡ {} ∷ {} ∷ []",
             antt::list(cells),
             antt::list(words),
             call.work,

@@ -10,7 +10,7 @@ use crate::computed::{Computed, TOLD};
 use crate::specs::{self, Modules};
 
 /// The crate of cases, which is written anew each time.
-pub const CASES: &str = "compare";
+const CASES: &str = "compare";
 
 /// So many cases stand in one file.
 const IN_FILE: usize = 100;
@@ -21,9 +21,8 @@ const NO_CODE: &str = "// Generated: no code.\n";
 /// What every file of cases begins with.
 const HEAD: &str = "\
 -- Generated: each case says that the definitions give what the Rust or the model gave.
-use mathlib.Core.Path.{_≡_, refl}
-use mathlib.Core.List.{[], _∷_}
-use mathlib.Core.Option.{none, some}
+use Rattle.std.proofs.Common.{◌≡◌, [], ◌∷◌, refl}
+use Rattle.std.proofs.Math.Option.{none, some}
 ";
 
 /// A case: what it says in antt, and its input.
@@ -60,6 +59,11 @@ pub struct Folder {
 }
 
 impl Folder {
+    /// The folder of the crate of cases.
+    pub fn cases(&self) -> PathBuf {
+        self.at.join("crates").join(CASES)
+    }
+
     /// Copies the definitions that these cases rest on out of a repository, and no code: no function is to be
     /// proved. What is there from an earlier time stays proved.
     pub fn new(at: PathBuf, repository: &Path, kinds: &Kinds) -> io::Result<Self> {
@@ -91,7 +95,7 @@ impl Folder {
 
     /// Writes the crate of cases anew.
     pub fn write_cases(&self, kinds: &Kinds) -> io::Result<Vec<File>> {
-        let proofs = new_crate(&self.at.join("crates").join(CASES), "proofs")?;
+        let proofs = new_crate(&self.cases(), "proofs")?;
         let mut modules = String::new();
         for Computed { module, text, .. } in computed(kinds) {
             fs::write(proofs.join(module).with_extension("antt"), text)?;
@@ -112,7 +116,7 @@ impl Folder {
     /// The `use` lines of cases that cite a module, and the line that unfolds all that it rests on.
     fn cites(&self, computed: &Computed) -> io::Result<(String, String)> {
         let Computed { module, names, .. } = computed;
-        let mut uses = format!("use Rattle·{CASES}·proofs.proofs.{module}.{{{names}}}\n");
+        let mut uses = format!("use Rattle.{CASES}.proofs.{module}.{{{names}}}\n");
         let mut unfolding = String::from("unfolding");
         let mut unfold = |path: String, alias: &str, text: &str| {
             let before = unfolding.len();
@@ -126,15 +130,11 @@ impl Folder {
         let mut modules = Modules::new();
         for Computed { module, text, .. } in [&TOLD, computed] {
             specs::collect(&self.at.join("crates"), text, &mut modules)?;
-            unfold(
-                format!("Rattle·{CASES}·proofs.proofs.{module}"),
-                module,
-                text,
-            );
+            unfold(format!("Rattle.{CASES}.proofs.{module}"), module, text);
         }
         for ((name, module), text) in &modules {
-            let alias = format!("{name}-{module}").replace('_', "-");
-            unfold(format!("Rattle·{name}.specs.{module}"), &alias, text);
+            let alias = format!("{name}_{module}");
+            unfold(format!("Rattle.{name}.specs.{module}"), &alias, text);
         }
         Ok((uses, unfolding))
     }
@@ -154,7 +154,7 @@ impl Folder {
             let Case { claim, .. } = case;
             write!(
                 text,
-                "pub case-{number} : {claim}\n{unfolding}\ncase-{number} = refl\n"
+                "pub case_{number} : {claim}\n{unfolding}\ncase_{number} = refl\n"
             )
             .expect("a string takes all");
         }
@@ -163,21 +163,25 @@ impl Folder {
     }
 }
 
-/// The crates of a crates.txt, bottom up, with those that each stands on.
+/// The crates of a crates.txt, bottom up, with those that each stands on. Settings may stand behind a name.
 fn crates(lines: &str) -> impl Iterator<Item = (String, Vec<String>)> {
     let lines = lines.lines().filter(|line| !line.starts_with('#'));
     lines
         .filter_map(|line| line.split_once(':'))
-        .map(|(name, below)| {
+        .filter_map(|(front, below)| {
+            let name = front.split_whitespace().next()?.to_string();
             let below = below.split_whitespace().map(String::from).collect();
-            (name.trim().to_string(), below)
+            Some((name, below))
         })
 }
 
-/// Makes the folder of a crate without code anew, and one folder in it, which is answered.
+/// Makes the folder of a crate without code anew, and one folder in it, which is answered. What checks kept stays.
 fn new_crate(at: &Path, inside: &str) -> io::Result<PathBuf> {
-    if at.exists() {
-        fs::remove_dir_all(at)?;
+    for part in ["src", "specs", "proofs"] {
+        let part = at.join(part);
+        if part.exists() {
+            fs::remove_dir_all(part)?;
+        }
     }
     fs::create_dir_all(at.join("src"))?;
     fs::write(at.join("src/lib.rt"), NO_CODE)?;

@@ -76,6 +76,14 @@ struct Options {
     repository: PathBuf,
 }
 
+/// The folder that is written into where none is named: outside the repository, whose gate takes no second crates.txt in it, and
+/// one for each clone.
+fn own_folder() -> io::Result<PathBuf> {
+    let clone = std::env::current_dir()?.display().to_string();
+    let name = clone.trim_matches('/').replace('/', "-");
+    Ok(std::env::temp_dir().join("hulwyth-definitions").join(name))
+}
+
 fn read_options() -> Result<Options, String> {
     let mut all = Options {
         seed: 1,
@@ -86,7 +94,7 @@ fn read_options() -> Result<Options, String> {
         calls: 400,
         parts: 400,
         slices: 200,
-        folder: PathBuf::from("target/differential/definitions"),
+        folder: own_folder().map_err(|error| format!("no folder to write into: {error}"))?,
         repository: PathBuf::from("."),
     };
     options::read(options::words(), |given| {
@@ -211,7 +219,7 @@ fn wide(rng: &mut Rng) -> Wide {
 
 fn prove(folder: &Folder, kinds: &[(&str, Vec<Case>)]) -> io::Result<Verdict> {
     let files = folder.write_cases(kinds)?;
-    verdict::prove(&folder.at, &files)
+    verdict::prove(folder, &files)
 }
 
 /// Prints what came of it; status 1 on a difference, 2 where some case could not be computed.

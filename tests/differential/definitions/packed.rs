@@ -67,7 +67,7 @@ impl Part {
     /// What the definition is to give of it.
     pub fn claim(&self) -> String {
         format!(
-            "part-answer {} {}\n    ≡ {}",
+            "part_answer {} {}\n    ≡ {}",
             self.types,
             antt::list(&self.words),
             antt::list(told(self.verdict())),
@@ -113,7 +113,7 @@ impl Sliced {
             room,
         } = self.call;
         format!(
-            "slice-answer {} {from} {to} {base} {} {}\n    ≡ {} ∷ {} ∷ []",
+            "slice_answer {} {from} {to} {base} {} {}\n    ≡ {} ∷ {} ∷ []",
             self.part.types,
             antt::list(&self.part.words),
             antt::list(vec![BEFORE; room]),

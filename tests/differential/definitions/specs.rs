@@ -6,6 +6,9 @@ use std::fs;
 use std::io;
 use std::path::Path;
 
+/// The standard library, whose definitions are there already.
+const STANDARD: &str = "std";
+
 /// The modules of specs that some text rests on, by crate and module, with their texts.
 pub type Modules = BTreeMap<(String, String), String>;
 
@@ -26,12 +29,11 @@ pub fn collect(crates: &Path, text: &str, found: &mut Modules) -> io::Result<()>
     Ok(())
 }
 
-/// Crate and module of a line `use Rattle·CRATE.specs.MODULE..`, or `use Rattle·CRATE·specs.specs.MODULE..` in the crate itself.
+/// Crate and module of a line `use Rattle.CRATE.specs.MODULE..`; those of the standard library are no crate of a repository.
 fn cited(line: &str) -> Option<(&str, &str)> {
-    let (name, rest) = line.strip_prefix("use Rattle·")?.split_once(".specs.")?;
-    let name = name.strip_suffix("·specs").unwrap_or(name);
-    let module = rest.split(['.', ' ']).next()?;
-    Some((name, module))
+    let (name, rest) = line.strip_prefix("use Rattle.")?.split_once('.')?;
+    let module = rest.strip_prefix("specs.")?.split(['.', ' ']).next()?;
+    (name != STANDARD).then_some((name, module))
 }
 
 /// The definitions of a module that must be unfolded.

@@ -5,7 +5,7 @@ use std::path::Path;
 use std::process::Command;
 
 use crate::answers::Input;
-use crate::antt::{CASES, File};
+use crate::antt::{File, Folder};
 
 /// A case that is not proved: its file and its number in it, its input and what the prover says.
 pub struct Difference {
@@ -22,11 +22,10 @@ pub enum Verdict {
     Failed(String),
 }
 
-pub fn prove(folder: &Path, files: &[File]) -> io::Result<Verdict> {
+pub fn prove(folder: &Folder, files: &[File]) -> io::Result<Verdict> {
     let output = Command::new("rt")
-        .args(["check", CASES])
-        .env("RT_CUT", "0")
-        .current_dir(folder)
+        .arg("check")
+        .current_dir(folder.cases())
         .output()?;
     let mut text = String::from_utf8_lossy(&output.stdout).into_owned();
     text.push_str(&String::from_utf8_lossy(&output.stderr));

@@ -11,7 +11,6 @@ use mathlib.Core.Path.{◌≡◌, sym, ap, ◌∙◌}
 use lib.Dec.{ltb}
 use lib.ListN.{length}
 use native.Mathlib.Omega.{arith}
-use borrow.Author.Rules.{rules}
 use Rattle.balance.proofs.balance.Goals.{Else-too_little_work, Else-types-gt65536, In_default, Start}
 use Rattle.balance.proofs.balance.Goals as goal
 
@@ -66,7 +65,7 @@ returns-then-too_little_work c =
     refuses_work (types (goal.at.returns-then-too_little_work c).Start) (none_first (goal.at.returns-then-too_little_work c).Start) (cs (goal.at.returns-then-too_little_work c).Start) (ws (goal.at.returns-then-too_little_work c).Start) (work (goal.at.returns-then-too_little_work c).Start) (out (goal.at.returns-then-too_little_work c).Start) (packed (goal.at.returns-then-too_little_work c).Start) (few_types (goal.at.returns-then-too_little_work c).Else-types-gt65536) little
 
 pub tree_check-requires : goal.tree_check-requires
-tree_check-requires c =  record { types_bound = few_types (goal.at.tree_check-requires c).Else-types-gt65536; words_in_bounds = work_lent (goal.at.tree_check-requires c).Else-too_little_work }
+tree_check-requires c = record { types_bound = few_types (goal.at.tree_check-requires c).Else-types-gt65536; words_in_bounds = work_lent (goal.at.tree_check-requires c).Else-too_little_work }
 
 pub returns-in-At : goal.returns-in-At
 returns-in-At c =

@@ -10,7 +10,6 @@ use Rattle.balance.proofs.Calling.{items_are}
 use Rattle.balance.specs.Steps.{Building}
 use lib.ListN.{length}
 use native.Mathlib.Omega.{arith}
-use borrow.Author.Rules.{rules}
 use Rattle.tree.specs.Cells.{cell_width}
 use Rattle.balance.proofs.balance_accepted.Goals.{After-push_cells-arg-1}
 use Rattle.balance.proofs.balance_accepted.Goals as goal
@@ -55,18 +54,18 @@ overflow_cast-end c =
 
 pub stage_words-low-requires : goal.stage_words-low-requires
 stage_words-low-requires c =
-     record { words_len_bound = omega (arith, c.requires.most, items_are c.args.cells.now c.args.words.now); end_in_bounds = omega (arith, c.requires.lent, c.requires.most, items_are c.args.cells.now c.args.words.now) }
+    record { words_len_bound = omega (arith, c.requires.most, items_are c.args.cells.now c.args.words.now); end_in_bounds = omega (arith, c.requires.lent, c.requires.most, items_are c.args.cells.now c.args.words.now) }
 
 pub note_bases-requires : goal.note_bases-requires
 note_bases-requires c =
-     record { by_index = (c.args.words.now, c.requires.given); cell_width_in_bounds = omega (arith, c.requires.lent, c.stage_words-low.auto.work, c.requires.most, items_are c.args.cells.now c.args.words.now) }
+    record { by_index = (c.args.words.now, c.requires.given); cell_width_in_bounds = omega (arith, c.requires.lent, c.stage_words-low.auto.work, c.requires.most, items_are c.args.cells.now c.args.words.now) }
 
 pub push_cells-requires : goal.push_cells-requires
 push_cells-requires c = (words (goal.at.push_cells-requires c).After-push_cells-arg-1, started (goal.at.push_cells-requires c).After-push_cells-arg-1)
 
 pub rebuild-made-requires : goal.rebuild-made-requires
 rebuild-made-requires c =
-     record { by_index = (words (goal.at.rebuild-made-requires c).After-push_cells-arg-1, c.push_cells.ensures (words (goal.at.rebuild-made-requires c).After-push_cells-arg-1) (started (goal.at.rebuild-made-requires c).After-push_cells-arg-1)); cell_width_len_bound = omega (arith, (room (goal.at.rebuild-made-requires c).After-push_cells-arg-1).0, (room (goal.at.rebuild-made-requires c).After-push_cells-arg-1).1) }
+    record { by_index = (words (goal.at.rebuild-made-requires c).After-push_cells-arg-1, c.push_cells.ensures (words (goal.at.rebuild-made-requires c).After-push_cells-arg-1) (started (goal.at.rebuild-made-requires c).After-push_cells-arg-1)); cell_width_len_bound = omega (arith, (room (goal.at.rebuild-made-requires c).After-push_cells-arg-1).0, (room (goal.at.rebuild-made-requires c).After-push_cells-arg-1).1) }
 
 pub write_out-requires : goal.write_out-requires
 write_out-requires c =

@@ -1,7 +1,6 @@
 -- `balance::node_of` meets its contract: the two cases of the definition. Assumes nothing.
 use Rattle.balance.proofs.Pushing.{address_none, address_some}
 use mathlib.Core.Path.{sym}
-use borrow.Author.Rules.{rules}
 use Rattle.balance.proofs.node_of.Goals as goal
 
 pub returns-then-x-eq0 : goal.returns-then-x-eq0

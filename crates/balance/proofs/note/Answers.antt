@@ -3,7 +3,6 @@ use lib.ListN.{set}
 use Rattle.balance.proofs.Noting.{noted_none, noted_some}
 use mathlib.Core.Path.{sym, ap, ◌∙◌}
 use Prim.Native.Nat.{◌-◌}
-use borrow.Author.Rules.{rules}
 use Rattle.balance.proofs.note.Goals as goal
 
 pub returns-then-x-eq0 : goal.returns-then-x-eq0

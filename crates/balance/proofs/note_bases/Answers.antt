@@ -1,11 +1,8 @@
 -- `balance::note_bases` meets its contract: the invariant: the cells passed have noted what they name. Assumes nothing.
 use Rattle.balance.proofs.Handed.{handed}
-use Rattle.balance.specs.Steps.{Given}
-use Rattle.balance.proofs.Noting.{Noting, noting_start, noting_ready, noting_next, noting_end, noting_kept}
+use Rattle.balance.proofs.Noting.{noting_start, noting_ready, noting_next, noting_end, noting_kept}
 use lib.ListN.{set, length}
-use Prim.Native.Nat.{ℕ, ◌/◌, ◌-◌}
-use mathlib.Core.List.{List}
-use borrow.Author.Rules.{rules}
+use Prim.Native.Nat.{◌/◌}
 use native.Mathlib.Omega.{arith}
 use Rattle.tree.specs.Cells.{cell_width}
 use Rattle.balance.proofs.note_bases.Goals as goal
@@ -35,4 +32,4 @@ shape_of-work c =
 
 pub returns : goal.returns
 returns c =
-     record { by_index_2 = (λ ws g. noting_end c.args.cells.now ws (length c.args.cells.now / cell_width) g (set c.args.work.now 0 0) c.loop-i.work c.loop-i.i (c.loop-i.invariant ws g) (omega (arith, c.loop-i-test.false))); same = noting_kept c.args.cells.now c.requires.by_index.0 (length c.args.cells.now / cell_width) c.requires.by_index.1 c.args.work.now c.loop-i.work c.loop-i.i (c.loop-i.invariant c.requires.by_index.0 c.requires.by_index.1) }
+    record { by_index_2 = (λ ws g. noting_end c.args.cells.now ws (length c.args.cells.now / cell_width) g (set c.args.work.now 0 0) c.loop-i.work c.loop-i.i (c.loop-i.invariant ws g) (omega (arith, c.loop-i-test.false))); same = noting_kept c.args.cells.now c.requires.by_index.0 (length c.args.cells.now / cell_width) c.requires.by_index.1 c.args.work.now c.loop-i.work c.loop-i.i (c.loop-i.invariant c.requires.by_index.0 c.requires.by_index.1) }

@@ -1,12 +1,9 @@
 -- `balance::note_bases` meets its contract: the invariant: the cells passed have noted what they name. Assumes nothing.
-use Rattle.balance.proofs.Handed.{handed}
 use Rattle.balance.specs.Steps.{Given}
-use Rattle.balance.proofs.Noting.{Noting, noting_start, noting_ready, noting_next, noting_end, noting_kept}
-use lib.ListN.{set, length}
+use Rattle.balance.proofs.Noting.{Noting}
+use lib.ListN.{length}
 use Prim.Native.Nat.{ℕ, ◌/◌, ◌-◌}
 use mathlib.Core.List.{List}
-use borrow.Author.Rules.{rules}
-use native.Mathlib.Omega.{arith}
 use Rattle.tree.specs.Cells.{cell_width}
 use Rattle.balance.proofs.note_bases.Given as goal
 

@@ -2,7 +2,6 @@
 use Rattle.balance.proofs.Noting.{links_part_done, links_tree_done}
 use native.Mathlib.Nat.{add-zero}
 use native.Mathlib.Omega.{arith}
-use borrow.Author.Rules.{rules}
 use Rattle.balance.proofs.note_links.Goals as goal
 
 pub returns-then-cells-i-eq2 : goal.returns-then-cells-i-eq2

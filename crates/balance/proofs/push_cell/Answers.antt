@@ -8,7 +8,6 @@ use mathlib.Core.Path.{◌≡◌, refl}
 use lib.ListN.{length, get_or}
 use native.Mathlib.Nat.{add-zero}
 use native.Mathlib.Omega.{arith}
-use borrow.Author.Rules.{rules}
 use Rattle.tree.specs.Cells.{cell_width, position_place, first_place, next_place, cell_kind, cell_position, cell_first, cell_next}
 use Rattle.balance.proofs.push_cell.Goals.{Start}
 use Rattle.balance.proofs.push_cell.Goals as goal
@@ -76,7 +75,7 @@ overflow_add-low c =
 
 pub push_part-requires : goal.push_part-requires
 push_part-requires c =
-     record { node_width_bound = room (goal.at.push_part-requires c).Start; readable = rw c.node_of-next.ensures (readable (goal.at.push_part-requires c).Start (get_or (cs (goal.at.push_part-requires c).Start) (i (goal.at.push_part-requires c).Start * cell_width + next_place) 0) (next_named (goal.at.push_part-requires c).Start)) }
+    record { node_width_bound = room (goal.at.push_part-requires c).Start; readable = rw c.node_of-next.ensures (readable (goal.at.push_part-requires c).Start (get_or (cs (goal.at.push_part-requires c).Start) (i (goal.at.push_part-requires c).Start * cell_width + next_place) 0) (next_named (goal.at.push_part-requires c).Start)) }
 
 pub returns-then-cells-i-eq2 : goal.returns-then-cells-i-eq2
 returns-then-cells-i-eq2 c =

@@ -1,9 +1,7 @@
 -- `balance::push_cells` meets its contract: the invariant: the nodes of the cells from the present one on stand in the store. Assumes nothing.
-use mathlib.Core.Path.{◌≡◌, refl, ◌∙◌}
-use Prim.Native.Nat.{◌≤◌, ℕ, ◌/◌}
+use mathlib.Core.Path.{refl, ◌∙◌}
+use Prim.Native.Nat.{◌/◌}
 use Rattle.balance.proofs.Pushing.{building_one_less, building_none_left}
-use Rattle.balance.specs.Steps.{Building}
-use mathlib.Core.List.{List}
 use lib.ListN.{length}
 use native.Mathlib.Omega.{arith}
 use Rattle.tree.specs.Cells.{cell_width}
@@ -17,7 +15,7 @@ overflow_sub-i c = omega (arith, c.loop-i-test.true)
 
 pub push_cell-requires : goal.push_cell-requires
 push_cell-requires c =
-     record { i_in_bounds = omega (arith, c.loop-i-test.true, c.loop-i.invariant.0); by_index = (c.requires.0, building_one_less c.args.none_first c.loop-i.work c.args.cells.now c.requires.0 (length c.args.cells.now / cell_width) c.args.high c.args.low c.loop-i.i c.loop-i-test.true (c.loop-i.invariant.2 c.requires.0 c.requires.1)) }
+    record { i_in_bounds = omega (arith, c.loop-i-test.true, c.loop-i.invariant.0); by_index = (c.requires.0, building_one_less c.args.none_first c.loop-i.work c.args.cells.now c.requires.0 (length c.args.cells.now / cell_width) c.args.high c.args.low c.loop-i.i c.loop-i-test.true (c.loop-i.invariant.2 c.requires.0 c.requires.1)) }
 
 pub loop-i-smaller : goal.loop-i-smaller
 loop-i-smaller c = omega (arith, c.loop-i-test.true)

@@ -1,11 +1,9 @@
 -- `balance::push_cells` meets its contract: the invariant: the nodes of the cells from the present one on stand in the store. Assumes nothing.
-use mathlib.Core.Path.{◌≡◌, refl, ◌∙◌}
+use mathlib.Core.Path.{◌≡◌}
 use Prim.Native.Nat.{◌≤◌, ℕ, ◌/◌}
-use Rattle.balance.proofs.Pushing.{building_one_less, building_none_left}
 use Rattle.balance.specs.Steps.{Building}
 use mathlib.Core.List.{List}
 use lib.ListN.{length}
-use native.Mathlib.Omega.{arith}
 use Rattle.tree.specs.Cells.{cell_width}
 use Rattle.balance.proofs.push_cells.Given as goal
 

@@ -1,5 +1,4 @@
 -- `balance::push_typed` meets its contract: a tree's node, its type as the set has it. Assumes nothing.
-use borrow.Author.Rules.{rules}
 use Rattle.balance.proofs.push_typed.Goals as goal
 
 pub returns : goal.returns

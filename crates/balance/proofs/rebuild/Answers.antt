@@ -6,7 +6,6 @@ use mathlib.Core.List.{List}
 use mathlib.Core.Path.{◌≡◌}
 use lib.ListN.{length, get_or}
 use native.Mathlib.Omega.{arith}
-use borrow.Author.Rules.{rules}
 use Rattle.tree.specs.Cells.{cell_width}
 use Rattle.balance.proofs.rebuild.Goals.{After-node_of-kids, Start}
 use Rattle.balance.proofs.rebuild.Goals as goal
@@ -75,7 +74,7 @@ node_of-kids-requires c = omega (arith, first_small (goal.at.node_of-kids-requir
 
 pub row_size-size-requires : goal.row_size-size-requires
 row_size-size-requires c =
-     record { row = row_there c.args.none_first (held (goal.at.row_size-size-requires c).Start) (cs (goal.at.row_size-size-requires c).Start) (ws (goal.at.row_size-size-requires c).Start) (n (goal.at.row_size-size-requires c).Start) (high (goal.at.row_size-size-requires c).Start) (low (goal.at.row_size-size-requires c).Start) (building (goal.at.row_size-size-requires c).Start) (room (goal.at.row_size-size-requires c).Start) (many (goal.at.row_size-size-requires c).After-node_of-kids) (kids (goal.at.row_size-size-requires c).After-node_of-kids) (kids_is (goal.at.row_size-size-requires c).After-node_of-kids); le_k = omega (arith, many (goal.at.row_size-size-requires c).After-node_of-kids) }
+    record { row = row_there c.args.none_first (held (goal.at.row_size-size-requires c).Start) (cs (goal.at.row_size-size-requires c).Start) (ws (goal.at.row_size-size-requires c).Start) (n (goal.at.row_size-size-requires c).Start) (high (goal.at.row_size-size-requires c).Start) (low (goal.at.row_size-size-requires c).Start) (building (goal.at.row_size-size-requires c).Start) (room (goal.at.row_size-size-requires c).Start) (many (goal.at.row_size-size-requires c).After-node_of-kids) (kids (goal.at.row_size-size-requires c).After-node_of-kids) (kids_is (goal.at.row_size-size-requires c).After-node_of-kids); le_k = omega (arith, many (goal.at.row_size-size-requires c).After-node_of-kids) }
 
 pub bounds-cells-1 : goal.bounds-cells-1
 bounds-cells-1 c = omega (arith, top_inside (goal.at.bounds-cells-1 c).Start)

@@ -1,6 +1,5 @@
 -- `balance::stage_words` meets its contract: the invariant: the words from the present one on stand staged. Assumes nothing.
-use Rattle.balance.proofs.Staging.{Staging, staging_start, staging_next, staging_end}
-use borrow.Author.Rules.{rules}
+use Rattle.balance.proofs.Staging.{staging_start, staging_next, staging_end}
 use mathlib.Core.Path.{refl}
 use lib.ListN.{length}
 use native.Mathlib.Omega.{arith}
@@ -17,7 +16,7 @@ pub bounds-words-i : goal.bounds-words-i
 bounds-words-i c = omega (arith, c.loop-i-test.true, c.loop-i.invariant.most)
 
 pub stage-low-requires : goal.stage-low-requires
-stage-low-requires c =  record { le_low = omega (arith, c.loop-i.invariant.low_is, c.loop-i.invariant.enough, c.loop-i.invariant.most, c.loop-i-test.true); low_in_bounds = omega (arith, c.loop-i.invariant.low_is, c.loop-i.invariant.inside, c.loop-i.invariant.size) }
+stage-low-requires c = record { le_low = omega (arith, c.loop-i.invariant.low_is, c.loop-i.invariant.enough, c.loop-i.invariant.most, c.loop-i-test.true); low_in_bounds = omega (arith, c.loop-i.invariant.low_is, c.loop-i.invariant.inside, c.loop-i.invariant.size) }
 
 pub loop-i-smaller : goal.loop-i-smaller
 loop-i-smaller c = omega (arith, c.loop-i-test.true)
@@ -31,5 +30,4 @@ shape_of-work c = c.loop-i.invariant.size
 
 pub returns : goal.returns
 returns c =
-     let whole = staging_end c.args.words.now c.args.work.now c.loop-i.work c.args.end c.loop-i.low c.loop-i.i c.loop-i.invariant (omega (arith, c.loop-i-test.false)) in record { staged = whole.0; words_value = whole.1 }
-
+    let whole = staging_end c.args.words.now c.args.work.now c.loop-i.work c.args.end c.loop-i.low c.loop-i.i c.loop-i.invariant (omega (arith, c.loop-i-test.false)) in record { staged = whole.0; words_value = whole.1 }

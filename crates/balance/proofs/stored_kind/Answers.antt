@@ -1,5 +1,5 @@
 -- `balance::stored_kind` meets its contract. Assumes nothing.
-use borrow.Author.Tests.{eq-eqb, ne_eqb, not-true, not-false}
+use borrow.Author.Tests.{eq-eqb, ne_eqb}
 use mathlib.Core.Path.{sym}
 use Rattle.balance.proofs.stored_kind.Goals as goal
 

@@ -1,13 +1,11 @@
 -- `balance_core::divide_balanced` and `balance_core::balance_range`, which call each other, meet their contracts; the balanced size
 -- falls from a row to each group of several.
-use mathlib.Core.Path.{◌≡◌, ◌∙◌}
-use mathlib.Core.List.{List, [], ◌∷◌}
-use Prim.Native.Nat.{ℕ, ◌+◌, ◌-◌, ◌*◌, ◌≤◌, ◌<◌}
+use mathlib.Core.Path.{◌∙◌}
+use mathlib.Core.List.{[]}
 use native.Mathlib.Omega.{arith}
-use Rattle.tree.specs.Trees.{Trees, kids_of, ◌⊕◌}
+use Rattle.tree.specs.Trees.{kids_of, ◌⊕◌}
 use Rattle.tree.specs.Balance.{groups, balance}
-use Rattle.balance_core.specs.Pending.{stacked, Pushed}
-use Rattle.balance_core.specs.Ready.{DivideReady}
+use Rattle.balance_core.specs.Pending.{stacked}
 use Rattle.balance_core.proofs.Dividing as L
 use Rattle.balance_core.proofs.Outer.{inner_ready, join_ready, balanced}
 use Rattle.balance_core.proofs.+balance_range_divide_balanced.Goals as goal
@@ -41,7 +39,7 @@ pub divide_balanced-overflow_add-sp : goal.divide_balanced-overflow_add-sp
 divide_balanced-overflow_add-sp t c = omega (arith, L.fits_sp c.requires (L.dividing_some c.requires (c.loop-left.invariant c.args.work.now c.requires c.push_groups-sp.ensures).2 c.loop-left-test.true).2)
 
 pub divide_balanced-word_at-kids-requires : goal.divide_balanced-word_at-kids-requires
-divide_balanced-word_at-kids-requires t c =  record { node_width_in_bounds = L.node_inside c.requires (L.dividing_some c.requires (c.loop-left.invariant c.args.work.now c.requires c.push_groups-sp.ensures).2 c.loop-left-test.true).2 c.group_at-g.ensures; k_lt_node_width = omega arith }
+divide_balanced-word_at-kids-requires t c = record { node_width_in_bounds = L.node_inside c.requires (L.dividing_some c.requires (c.loop-left.invariant c.args.work.now c.requires c.push_groups-sp.ensures).2 c.loop-left-test.true).2 c.group_at-g.ensures; k_lt_node_width = omega arith }
 
 pub divide_balanced-tell-n-requires : goal.divide_balanced-tell-n-requires
 divide_balanced-tell-n-requires t c =
@@ -87,7 +85,7 @@ divide_balanced-loop-left-preserved-then-g-eq1 t c = λ w p h.
     )
 
 pub divide_balanced-word_at-start-requires : goal.divide_balanced-word_at-start-requires
-divide_balanced-word_at-start-requires t c =  record { node_width_in_bounds = L.node_inside c.requires (L.dividing_some c.requires (c.loop-left.invariant c.args.work.now c.requires c.push_groups-sp.ensures).2 c.loop-left-test.true).2 c.group_at-g.ensures; k_lt_node_width = omega arith }
+divide_balanced-word_at-start-requires t c = record { node_width_in_bounds = L.node_inside c.requires (L.dividing_some c.requires (c.loop-left.invariant c.args.work.now c.requires c.push_groups-sp.ensures).2 c.loop-left-test.true).2 c.group_at-g.ensures; k_lt_node_width = omega arith }
 
 pub divide_balanced-balance_range-made-requires : goal.divide_balanced-balance_range-made-requires
 divide_balanced-balance_range-made-requires t c =

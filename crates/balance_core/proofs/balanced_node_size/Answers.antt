@@ -1,7 +1,6 @@
 -- `balance_core::balanced_node_size` meets its contract: what a node tells of its balanced size. Assumes nothing.
 use Rattle.balance_core.proofs.Sizes.{sizable_kids, sized_same, sized_other}
 use mathlib.Core.Path.{sym, ◌∙◌}
-use borrow.Author.Rules.{rules}
 use Rattle.balance_core.proofs.balanced_node_size.Goals as goal
 
 pub like-requires : goal.like-requires

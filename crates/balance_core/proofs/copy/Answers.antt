@@ -4,22 +4,22 @@ use native.Mathlib.Omega.{arith}
 use Rattle.balance_core.proofs.copy.Goals as goal
 
 pub word_at-kind-requires : goal.word_at-kind-requires
-word_at-kind-requires c =  record { node_width_in_bounds = copy_inside c.requires; k_lt_node_width = omega arith }
+word_at-kind-requires c = record { node_width_in_bounds = copy_inside c.requires; k_lt_node_width = omega arith }
 
 pub word_at-id-requires : goal.word_at-id-requires
-word_at-id-requires c =  record { node_width_in_bounds = copy_inside c.requires; k_lt_node_width = omega arith }
+word_at-id-requires c = record { node_width_in_bounds = copy_inside c.requires; k_lt_node_width = omega arith }
 
 pub word_at-start-requires : goal.word_at-start-requires
-word_at-start-requires c =  record { node_width_in_bounds = copy_inside c.requires; k_lt_node_width = omega arith }
+word_at-start-requires c = record { node_width_in_bounds = copy_inside c.requires; k_lt_node_width = omega arith }
 
 pub word_at-length-requires : goal.word_at-length-requires
-word_at-length-requires c =  record { node_width_in_bounds = copy_inside c.requires; k_lt_node_width = omega arith }
+word_at-length-requires c = record { node_width_in_bounds = copy_inside c.requires; k_lt_node_width = omega arith }
 
 pub word_at-first-requires : goal.word_at-first-requires
-word_at-first-requires c =  record { node_width_in_bounds = copy_inside c.requires; k_lt_node_width = omega arith }
+word_at-first-requires c = record { node_width_in_bounds = copy_inside c.requires; k_lt_node_width = omega arith }
 
 pub push_part-made-requires : goal.push_part-made-requires
-push_part-made-requires c =  record { node_width_bound = copy_room c.requires; readable = copy_onto c.requires }
+push_part-made-requires c = record { node_width_bound = copy_room c.requires; readable = copy_onto c.requires }
 
 pub overflow_add-result : goal.overflow_add-result
 overflow_add-result c = omega (arith, copy_fits c.requires)
@@ -35,7 +35,7 @@ returns-then-kind-eq2 c =
 
 pub push_tree-made-requires : goal.push_tree-made-requires
 push_tree-made-requires c =
-     record { node_width_bound = copy_room c.requires; readable = copy_kids c.requires c.word_at-kind.ensures c.word_at-first.ensures c.if-kind-eq2.false; readable_2 = copy_onto c.requires }
+    record { node_width_bound = copy_room c.requires; readable = copy_kids c.requires c.word_at-kind.ensures c.word_at-first.ensures c.if-kind-eq2.false; readable_2 = copy_onto c.requires }
 
 pub overflow_add-result-2 : goal.overflow_add-result-2
 overflow_add-result-2 c = omega (arith, copy_fits c.requires)

@@ -1,10 +1,7 @@
 -- `balance_core::first_group` meets its contract: how the first group of a row grows. Assumes nothing.
-use Rattle.balance_core.proofs.Growth.{Growing, row_sizable, growing_start, growing_sizable, growing_end, growing_stop, growing_step}
-use Rattle.balance_core.specs.Rows.{Row, Sizable}
-use Rattle.tree.specs.Trees.{Trees}
-use borrow.Author.Rules.{rules}
+use Rattle.balance_core.proofs.Growth.{row_sizable, growing_start, growing_sizable, growing_end, growing_stop, growing_step}
+use Rattle.balance_core.specs.Rows.{Sizable}
 use native.Mathlib.Omega.{arith}
-use Prim.Native.Nat.{◌-◌}
 use Rattle.balance_core.proofs.first_group.Goals.{In-loop-count, Start}
 use Rattle.balance_core.proofs.first_group.Goals as goal
 
@@ -21,13 +18,13 @@ pub balanced_node_size-size-requires : goal.balanced_node_size-size-requires
 balanced_node_size-size-requires c = first_at (goal.at.balanced_node_size-size-requires c).Start
 
 pub word_at-requires : goal.word_at-requires
-word_at-requires c =  record { node_width_in_bounds = (first_at (goal.at.word_at-requires c).Start).inside; k_lt_node_width = omega arith }
+word_at-requires c = record { node_width_in_bounds = (first_at (goal.at.word_at-requires c).Start).inside; k_lt_node_width = omega arith }
 
 pub word_at-requires-2 : goal.word_at-requires-2
-word_at-requires-2 c =  record { node_width_in_bounds = (first_at (goal.at.word_at-requires-2 c).Start).inside; k_lt_node_width = omega arith }
+word_at-requires-2 c = record { node_width_in_bounds = (first_at (goal.at.word_at-requires-2 c).Start).inside; k_lt_node_width = omega arith }
 
 pub word_at-next-requires : goal.word_at-next-requires
-word_at-next-requires c =  record { node_width_in_bounds = (first_at (goal.at.word_at-next-requires c).Start).inside; k_lt_node_width = omega arith }
+word_at-next-requires c = record { node_width_in_bounds = (first_at (goal.at.word_at-next-requires c).Start).inside; k_lt_node_width = omega arith }
 
 pub loop-count-init : goal.loop-count-init
 loop-count-init c = λ p.
@@ -44,13 +41,13 @@ returns-then-m-grown c = λ p.
     (omega (arith, c.if-m-grown.true))
 
 pub word_at-requires-in-loop-count : goal.word_at-requires-in-loop-count
-word_at-requires-in-loop-count c =  record { node_width_in_bounds = (next_at (goal.at.word_at-requires-in-loop-count c).In-loop-count).inside; k_lt_node_width = omega arith }
+word_at-requires-in-loop-count c = record { node_width_in_bounds = (next_at (goal.at.word_at-requires-in-loop-count c).In-loop-count).inside; k_lt_node_width = omega arith }
 
 pub word_at-requires-in-loop-count-2 : goal.word_at-requires-in-loop-count-2
-word_at-requires-in-loop-count-2 c =  record { node_width_in_bounds = (next_at (goal.at.word_at-requires-in-loop-count-2 c).In-loop-count).inside; k_lt_node_width = omega arith }
+word_at-requires-in-loop-count-2 c = record { node_width_in_bounds = (next_at (goal.at.word_at-requires-in-loop-count-2 c).In-loop-count).inside; k_lt_node_width = omega arith }
 
 pub word_at-next-requires-in-loop-count : goal.word_at-next-requires-in-loop-count
-word_at-next-requires-in-loop-count c =  record { node_width_in_bounds = (next_at (goal.at.word_at-next-requires-in-loop-count c).In-loop-count).inside; k_lt_node_width = omega arith }
+word_at-next-requires-in-loop-count c = record { node_width_in_bounds = (next_at (goal.at.word_at-next-requires-in-loop-count c).In-loop-count).inside; k_lt_node_width = omega arith }
 
 pub overflow_add-count : goal.overflow_add-count
 overflow_add-count c =

@@ -1,9 +1,7 @@
 -- `balance_core::first_group` meets its contract: how the first group of a row grows. Assumes nothing.
-use Rattle.balance_core.proofs.Growth.{Growing, row_sizable, growing_start, growing_sizable, growing_end, growing_stop, growing_step}
-use Rattle.balance_core.specs.Rows.{Row, Sizable}
+use Rattle.balance_core.proofs.Growth.{Growing}
+use Rattle.balance_core.specs.Rows.{Row}
 use Rattle.tree.specs.Trees.{Trees}
-use borrow.Author.Rules.{rules}
-use native.Mathlib.Omega.{arith}
 use Prim.Native.Nat.{◌-◌}
 use Rattle.balance_core.proofs.first_group.Given as goal
 

@@ -1,5 +1,4 @@
 -- `balance_core::group_at` meets its contract: four words read. Assumes nothing.
-use borrow.Author.Rules.{rules}
 use Rattle.balance_core.proofs.Pushes.{at_index}
 use Rattle.balance_core.proofs.group_at.Goals as goal
 

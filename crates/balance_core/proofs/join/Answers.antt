@@ -19,7 +19,7 @@ returns-then-is_one c =
     join_copied c.args.start c.args.length c.is_one.ensures c.if-is_one.true c.copy.ensures
 
 pub push_tree-made-requires : goal.push_tree-made-requires
-push_tree-made-requires c =  record { node_width_bound = join_room c.requires; readable = join_node c.requires; readable_2 = join_next c.requires }
+push_tree-made-requires c = record { node_width_bound = join_room c.requires; readable = join_node c.requires; readable_2 = join_next c.requires }
 
 pub overflow_add-result : goal.overflow_add-result
 overflow_add-result c = omega (arith, join_fits c.requires)

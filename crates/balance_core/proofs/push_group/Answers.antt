@@ -1,5 +1,4 @@
 -- `balance_core::push_group` meets its contract: four stores in a row are four words put into the list. Assumes nothing.
-use borrow.Author.Rules.{rules}
 use native.Mathlib.Omega.{arith}
 use lib.ListN.{length-set}
 use Prim.Native.Nat.{◌+◌, ◌-◌}

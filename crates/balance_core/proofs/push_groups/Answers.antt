@@ -1,11 +1,10 @@
 -- `balance_core::push_groups` meets its contract: the groups put already, and those of the rest of the row. Assumes nothing.
-use mathlib.Core.List.{List, ◌∷◌}
+use mathlib.Core.List.{◌∷◌}
 use Prim.Native.Nat.{◌≤◌}
 use native.Mathlib.Omega.{arith}
-use Rattle.tree.specs.Trees.{Trees}
 use Rattle.balance_core.specs.Rows.{Row}
 use Rattle.balance_core.specs.Pending.{PushReady}
-use Rattle.balance_core.proofs.Pushes.{Pushing, pushing_start, pushing_next, pushing_end, row_left, count_le, four, inside_sp}
+use Rattle.balance_core.proofs.Pushes.{pushing_start, pushing_next, pushing_end, row_left, count_le, four, inside_sp}
 use Rattle.balance_core.proofs.push_groups.Goals.{After-first_group-g, At-loop-left}
 use Rattle.balance_core.proofs.push_groups.Goals as goal
 
@@ -34,10 +33,10 @@ pub loop-left-init : goal.loop-left-init
 loop-left-init c = λ p. (p.us, p.below, pushing_start p)
 
 pub first_group-g-requires : goal.first_group-g-requires
-first_group-g-requires c =  record { row = row_at (goal.at.first_group-g-requires c).At-loop-left c.requires; le_k = omega (arith, c.loop-left-test.true) }
+first_group-g-requires c = record { row = row_at (goal.at.first_group-g-requires c).At-loop-left c.requires; le_k = omega (arith, c.loop-left-test.true) }
 
 pub push_group-sp-requires : goal.push_group-sp-requires
-push_group-sp-requires c =  record { le_stack = four_at (goal.at.push_group-sp-requires c).After-first_group-g; stack_in_bounds = inside_at (goal.at.push_group-sp-requires c).After-first_group-g }
+push_group-sp-requires c = record { le_stack = four_at (goal.at.push_group-sp-requires c).After-first_group-g; stack_in_bounds = inside_at (goal.at.push_group-sp-requires c).After-first_group-g }
 
 pub overflow_sub-left : goal.overflow_sub-left
 overflow_sub-left c = count_at (goal.at.overflow_sub-left c).After-first_group-g

@@ -1,11 +1,8 @@
 -- `balance_core::push_groups` meets its contract: the groups put already, and those of the rest of the row. Assumes nothing.
-use mathlib.Core.List.{List, ◌∷◌}
-use Prim.Native.Nat.{◌≤◌}
-use native.Mathlib.Omega.{arith}
+use mathlib.Core.List.{List}
 use Rattle.tree.specs.Trees.{Trees}
-use Rattle.balance_core.specs.Rows.{Row}
 use Rattle.balance_core.specs.Pending.{PushReady}
-use Rattle.balance_core.proofs.Pushes.{Pushing, pushing_start, pushing_next, pushing_end, row_left, count_le, four, inside_sp}
+use Rattle.balance_core.proofs.Pushes.{Pushing}
 use Rattle.balance_core.proofs.push_groups.Given as goal
 
 abbrev pub invariant-loop-left : goal.invariant-loop-left

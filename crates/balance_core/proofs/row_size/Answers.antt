@@ -1,5 +1,4 @@
 -- `balance_core::row_size` meets its contract: the first group is the whole row. Assumes nothing.
-use borrow.Author.Rules.{rules}
 use mathlib.Core.Path.{refl}
 use Rattle.balance_core.proofs.OneGroup.{row_sized}
 use Rattle.balance_core.proofs.row_size.Goals as goal

@@ -1,7 +1,6 @@
 -- `balance_core::share_of` meets its contract. Assumes nothing.
 use Rattle.tree.specs.Balance.{share}
 use native.Mathlib.Omega.{arith}
-use borrow.Author.Rules.{rules}
 use Rattle.balance_core.proofs.share_of.Goals as goal
 
 pub returns : goal.returns

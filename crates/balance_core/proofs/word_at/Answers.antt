@@ -2,7 +2,6 @@
 use lib.ListN.{get_or}
 use Prim.Native.Nat.{ℕ, ◌+◌}
 use mathlib.Core.Path.{ap}
-use borrow.Author.Rules.{rules}
 use Rattle.balance_core.proofs.word_at.Goals as goal
 
 pub returns : goal.returns

@@ -6,7 +6,6 @@ use lib.ListN.{length, take}
 use lib.Seq.{length-take-le}
 use Rattle.build.specs.Answer.{given_length}
 use Rattle.build.proofs.Calling.{refuses, front_fits, listed, builds}
-use borrow.Author.Rules.{rules}
 use Rattle.build.proofs.build.Goals as goal
 
 pub slice_bounds-front-end : goal.slice_bounds-front-end

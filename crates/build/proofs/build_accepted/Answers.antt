@@ -3,7 +3,6 @@ use mathlib.Core.Path.{◌∙◌}
 use lib.ListN.{length}
 use Rattle.build.specs.Answer.{given_length}
 use Rattle.build.proofs.Listing.{write_asks, writing, built_is}
-use borrow.Author.Rules.{rules}
 use Rattle.build.proofs.build_accepted.Goals as goal
 
 pub write_result-requires : goal.write_result-requires

@@ -1,6 +1,5 @@
 -- `build::end_of_list` meets its contract, each case. Assumes nothing.
 use Rattle.build.proofs.Listing.{end_none, end_last}
-use borrow.Author.Rules.{rules}
 use Rattle.build.proofs.end_of_list.Goals as goal
 
 pub returns-then-n-eq0 : goal.returns-then-n-eq0

@@ -1,5 +1,4 @@
 -- `build::length_of` meets its contract, each case. Assumes nothing.
-use borrow.Author.Rules.{rules}
 use Rattle.build.proofs.length_of.Goals as goal
 
 pub returns-in-Last : goal.returns-in-Last

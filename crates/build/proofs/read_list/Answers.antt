@@ -9,8 +9,7 @@ use Rattle.build.proofs.read_list.Goals as goal
 
 pub count_repeats-requires : goal.count_repeats-requires
 count_repeats-requires c =
-     let whole = count_asks c.args.first_repeat c.args.bound c.args.start c.args.records.now (length c.args.work.now) c.requires.listed in record { record_width_in_bounds = whole.0; records_len_bound = whole.1 }
-
+    let whole = count_asks c.args.first_repeat c.args.bound c.args.start c.args.records.now (length c.args.work.now) c.requires.listed in record { record_width_in_bounds = whole.0; records_len_bound = whole.1 }
 
 pub overflow_mul-children : goal.overflow_mul-children
 overflow_mul-children c =

@@ -3,16 +3,15 @@ use mathlib.Core.Path.{refl, ◌∙◌}
 use Prim.Native.Nat.{◌+◌}
 use native.Mathlib.Omega.{arith}
 use Rattle.build.proofs.Writing.{kids_read, refuses_cells, refuses_words, top_ready, writes}
-use borrow.Author.Rules.{rules}
 use Rattle.build.proofs.write_result.Goals as goal
 
 pub tell-requires : goal.tell-requires
 tell-requires c =
-     record { readable = kids_read c.args.work.now c.args.first.top c.args.first.kids c.requires; k_lt_node_width = omega arith }
+    record { readable = kids_read c.args.work.now c.args.first.top c.args.first.kids c.requires; k_lt_node_width = omega arith }
 
 pub tell-requires-2 : goal.tell-requires-2
 tell-requires-2 c =
-     record { readable = kids_read c.args.work.now c.args.first.top c.args.first.kids c.requires; k_lt_node_width = omega arith }
+    record { readable = kids_read c.args.work.now c.args.first.top c.args.first.kids c.requires; k_lt_node_width = omega arith }
 
 pub returns-then-cells-count : goal.returns-then-cells-count
 returns-then-cells-count c =

@@ -1,14 +1,12 @@
 -- `cells::check_cells` meets its contract. The invariant: what is left from cell i + 1 on, with the open links in the work
 -- slice, gives the same place as the whole. Assumes nothing.
-use borrow.Author.Rules.{rules}
-use mathlib.Core.Path.{◌≡◌, refl, sym, ◌∙◌}
-use Prim.Native.Nat.{◌+◌, ◌-◌, ◌*◌, ◌≤◌, ◌<◌}
+use mathlib.Core.Path.{refl, sym, ◌∙◌}
+use Prim.Native.Nat.{◌+◌, ◌*◌, ◌≤◌, ◌<◌}
 use native.Mathlib.Omega.{arith}
 use lib.ListN.{length}
-use borrow.Author.Tests.{not-true, not-false}
 use Rattle.tree.specs.Cells.{cell_width, length_place}
 use Rattle.cells.specs.Steps.{cell_at}
-use Rattle.cells.proofs.Walking.{Walk, walk_start, walk_end}
+use Rattle.cells.proofs.Walking.{walk_start, walk_end}
 use Rattle.cells.proofs.Passing.{Placed, in_its_place, misplaced, breaks, fitting, passes}
 use Rattle.cells.proofs.check_cells.Goals.{After-read_cell-k, Else-not-placed, In-loop-i}
 use Rattle.cells.proofs.check_cells.Goals as goal
@@ -56,7 +54,7 @@ read_cell-k-requires c =
 
 pub cell_broken-requires : goal.cell_broken-requires
 cell_broken-requires c =
-     record { i_lt_n = (c.loop-i-test.true, omega arith); room = record { for_indices = omega (arith, c.requires.record_width_in_bounds, c.loop-i.invariant.3); for_ends = omega (arith, part_room (goal.at.cell_broken-requires c).In-loop-i) }; types_bound = c.requires.given.types }
+    record { i_lt_n = (c.loop-i-test.true, omega arith); room = record { for_indices = omega (arith, c.requires.record_width_in_bounds, c.loop-i.invariant.3); for_ends = omega (arith, part_room (goal.at.cell_broken-requires c).In-loop-i) }; types_bound = c.requires.given.types }
 
 pub returns-then-cell_broken : goal.returns-then-cell_broken
 returns-then-cell_broken c =
@@ -68,22 +66,24 @@ overflow_sub-older c = omega (arith, (at₂ (goal.at.overflow_sub-older c).Else-
 
 pub push_names-s-requires : goal.push_names-s-requires
 push_names-s-requires c =
-     record { top_in_bounds = omega (arith, link_room (goal.at.push_names-s-requires c).In-loop-i, c.cell_broken.auto); len_bound = fitting c.requires.given.cells c.loop-i.invariant.2 c.loop-i-test.true c.read_link-d.ensures c.read_cell-k.ensures c.requires.given.final (small₃ (goal.at.push_names-s-requires c).After-read_cell-k) (at₂ (goal.at.push_names-s-requires c).Else-not-placed)
-          (sym c.cell_broken.ensures.value ∙ c.if-cell_broken.false) }
+    record {
+      top_in_bounds = omega (arith, link_room (goal.at.push_names-s-requires c).In-loop-i, c.cell_broken.auto);
+      len_bound = fitting c.requires.given.cells c.loop-i.invariant.2 c.loop-i-test.true c.read_link-d.ensures c.read_cell-k.ensures c.requires.given.final (small₃ (goal.at.push_names-s-requires c).After-read_cell-k) (at₂ (goal.at.push_names-s-requires c).Else-not-placed)
+          (sym c.cell_broken.ensures.value ∙ c.if-cell_broken.false);
+    }
 
 pub loop-i-smaller : goal.loop-i-smaller
 loop-i-smaller c = omega (arith, c.loop-i-test.true)
 
 pub loop-i-preserved : goal.loop-i-preserved
-loop-i-preserved c =
-    (
-      omega (arith, c.loop-i-test.true),
-      omega (arith, c.loop-i.invariant.1, c.push_names-s.auto, c.cell_broken.auto),
-      passes c.requires.given.cells c.loop-i.invariant.2 c.loop-i-test.true c.read_link-d.ensures c.read_cell-k.ensures c.requires.given.final (small₃ (goal.at.loop-i-preserved c).After-read_cell-k) (at₂ (goal.at.loop-i-preserved c).Else-not-placed)
-          (sym c.cell_broken.ensures.value ∙ c.if-cell_broken.false)
-          _ _ (c.args.g.n * 5 + 8) _ _ _ (omega (arith, c.loop-i.invariant.2.few, c.loop-i-test.true)) (omega arith) c.cell_broken.ensures.front c.push_names-s.ensures c.words_end-w.ensures,
-      omega (arith, c.loop-i.invariant.3, c.cell_broken.auto),
-    )
+loop-i-preserved c = (
+  omega (arith, c.loop-i-test.true),
+  omega (arith, c.loop-i.invariant.1, c.push_names-s.auto, c.cell_broken.auto),
+  passes c.requires.given.cells c.loop-i.invariant.2 c.loop-i-test.true c.read_link-d.ensures c.read_cell-k.ensures c.requires.given.final (small₃ (goal.at.loop-i-preserved c).After-read_cell-k) (at₂ (goal.at.loop-i-preserved c).Else-not-placed)
+      (sym c.cell_broken.ensures.value ∙ c.if-cell_broken.false)
+      _ _ (c.args.g.n * 5 + 8) _ _ _ (omega (arith, c.loop-i.invariant.2.few, c.loop-i-test.true)) (omega arith) c.cell_broken.ensures.front c.push_names-s.ensures c.words_end-w.ensures,
+  omega (arith, c.loop-i.invariant.3, c.cell_broken.auto),
+)
 
 pub returns : goal.returns
 returns c = walk_end _ _ _ _ _ c.requires.given.cells _ _ _ _ _ c.loop-i.invariant.2 c.loop-i-test.false

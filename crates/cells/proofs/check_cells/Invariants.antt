@@ -1,15 +1,9 @@
 -- `cells::check_cells` meets its contract. The invariant: what is left from cell i + 1 on, with the open links in the work
 -- slice, gives the same place as the whole. Assumes nothing.
-use borrow.Author.Rules.{rules}
-use mathlib.Core.Path.{◌≡◌, refl, sym, ◌∙◌}
-use Prim.Native.Nat.{◌+◌, ◌-◌, ◌*◌, ◌≤◌, ◌<◌}
-use native.Mathlib.Omega.{arith}
+use mathlib.Core.Path.{◌≡◌}
+use Prim.Native.Nat.{◌-◌, ◌≤◌}
 use lib.ListN.{length}
-use borrow.Author.Tests.{not-true, not-false}
-use Rattle.tree.specs.Cells.{cell_width, length_place}
-use Rattle.cells.specs.Steps.{cell_at}
-use Rattle.cells.proofs.Walking.{Walk, walk_start, walk_end}
-use Rattle.cells.proofs.Passing.{Placed, in_its_place, misplaced, breaks, fitting, passes}
+use Rattle.cells.proofs.Walking.{Walk}
 use Rattle.cells.proofs.check_cells.Given as goal
 
 abbrev pub invariant-loop-i : goal.invariant-loop-i

@@ -1,8 +1,7 @@
 -- `cells::check_tree` meets its contract: each return is one case of the definition. Assumes nothing.
-use borrow.Author.Rules.{rules}
 use mathlib.Core.Path.{refl}
 use mathlib.Core.List.{List}
-use Prim.Native.Nat.{ℕ, ◌+◌, ◌-◌, ◌*◌, ◌≤◌, ◌/◌}
+use Prim.Native.Nat.{ℕ, ◌+◌, ◌*◌, ◌≤◌, ◌/◌}
 use native.Mathlib.Omega.{arith}
 use lib.ListN.{length}
 use Rattle.tree.specs.Cells.{cell_width}
@@ -30,13 +29,16 @@ chain_lengths-requires c =
 
 pub check_cells-lowest-requires : goal.check_cells-lowest-requires
 check_cells-lowest-requires c =
-     record { given = record {
+    record {
+      given = record {
         cells = omega (arith, c.if-cells-ne0.false);
         room = omega (arith, room c.args.cells.now c.args.words.now _ c.requires.words_in_bounds, c.chain_lengths.auto);
         types = c.requires.types_bound;
         final = c.last_part-last.ensures;
         lengths = c.chain_lengths.ensures;
-      }; record_width_in_bounds = omega (arith, c.requires.record_width_in_bounds) }
+      };
+      record_width_in_bounds = omega (arith, c.requires.record_width_in_bounds);
+    }
 
 pub returns-then-lowest-eq0 : goal.returns-then-lowest-eq0
 returns-then-lowest-eq0 c =

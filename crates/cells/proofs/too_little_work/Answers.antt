@@ -1,5 +1,4 @@
 -- `cells::too_little_work` meets its contract: each return is one side of the test. Assumes nothing.
-use borrow.Author.Rules.{rules}
 use mathlib.Core.Path.{◌≡◌, sym, ◌∙◌}
 use mathlib.Core.Bool.{true}
 use mathlib.Core.List.{List}

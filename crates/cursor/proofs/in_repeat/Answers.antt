@@ -1,6 +1,5 @@
 -- `cursor::in_repeat` meets its contract, each case. Assumes nothing.
 use Rattle.cursor.proofs.Own.{repeats_plain, repeats_id}
-use borrow.Author.Rules.{rules}
 use Rattle.cursor.proofs.in_repeat.Goals as goal
 
 pub returns-then-id-first_repeat : goal.returns-then-id-first_repeat

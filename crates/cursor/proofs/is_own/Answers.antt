@@ -1,6 +1,5 @@
 -- `cursor::is_own` meets its contract, each case. Assumes nothing.
 use Rattle.cursor.proofs.Own.{own_plain, own_id}
-use borrow.Author.Rules.{rules}
 use Rattle.cursor.proofs.is_own.Goals as goal
 
 pub returns-in-Plain : goal.returns-in-Plain

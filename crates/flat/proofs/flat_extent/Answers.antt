@@ -1,6 +1,5 @@
 -- `flat::flat_extent` meets its contract: the flat part up to the place at hand, one record more at a time. Assumes nothing.
-use borrow.Author.Rules.{rules}
-use Rattle.flat.proofs.Extending.{Extending, extending_start, extended_full, extended_done, drop_at, early_at, hold_at}
+use Rattle.flat.proofs.Extending.{extending_start, extended_full, extended_done, drop_at, early_at, hold_at}
 use Prim.Native.Nat.{◌+◌, ◌*◌, ◌≤◌, ◌<◌}
 use native.Mathlib.Omega.{arith}
 use lib.ListN.{length}

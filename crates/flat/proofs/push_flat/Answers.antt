@@ -4,7 +4,6 @@ use mathlib.Core.Path.{refl, ◌∙◌}
 use Prim.Native.Nat.{◌+◌, ◌*◌, ◌≤◌}
 use native.Mathlib.Omega.{arith}
 use lib.ListN.{length}
-use borrow.Author.Rules.{rules}
 use Rattle.flat.proofs.push_flat.Goals.{Start}
 use Rattle.flat.proofs.push_flat.Goals as goal
 
@@ -24,7 +23,7 @@ id_at-id-requires c = first_at (goal.at.id_at-id-requires c).Start
 
 pub push_tree-made-requires : goal.push_tree-made-requires
 push_tree-made-requires c =
-     record { node_width_bound = node_inside c.requires.node_ready c.requires.extends c.requires.le_count; readable = (λ z. absurd (z refl)); readable_2 = c.requires.node_ready.readable }
+    record { node_width_bound = node_inside c.requires.node_ready c.requires.extends c.requires.le_count; readable = (λ z. absurd (z refl)); readable_2 = c.requires.node_ready.readable }
 
 pub overflow_add-result : goal.overflow_add-result
 overflow_add-result c = omega (arith, fits_at (goal.at.overflow_add-result c).Start)
@@ -48,9 +47,8 @@ overflow_mul-count c =
 
 pub push_part-made-requires : goal.push_part-made-requires
 push_part-made-requires c =
-     let whole = staged_ready c.requires.node_ready c.requires.extends c.requires.le_count c.start_at-start.ensures c.less-length.ensures c.is_lone_long.ensures
+    let whole = staged_ready c.requires.node_ready c.requires.extends c.requires.le_count c.start_at-start.ensures c.less-length.ensures c.is_lone_long.ensures
     c.if-is_lone_long.false c.stage_flat-from.ensures in record { node_width_bound = whole.0; readable = whole.1 }
-
 
 pub overflow_add-result-2 : goal.overflow_add-result-2
 overflow_add-result-2 c =

@@ -1,6 +1,5 @@
 -- `flat::stage_flat` meets its contract: the held records from the place at hand on are staged. Assumes nothing.
-use Rattle.flat.specs.Parts.{StageReady}
-use Rattle.flat.proofs.Staging.{Staging, staging_start, staging_place, drop_at, four_at, ready_at, hold_at, staging_end}
+use Rattle.flat.proofs.Staging.{staging_start, staging_place, drop_at, four_at, ready_at, hold_at, staging_end}
 use Prim.Native.Nat.{◌+◌, ◌*◌, ◌≤◌}
 use native.Mathlib.Omega.{arith}
 use lib.ListN.{length}

@@ -1,6 +1,5 @@
 -- `flat::stage_record` meets its contract: four words, the last one first. Assumes nothing.
 use Rattle.flat.proofs.Staging.{staged_record}
-use borrow.Author.Rules.{rules}
 use Rattle.flat.proofs.stage_record.Goals as goal
 
 pub returns : goal.returns

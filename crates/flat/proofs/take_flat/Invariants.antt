@@ -1,11 +1,7 @@
 -- `flat::take_flat` meets its contract: what is gathered so far, and the records still to come. Assumes nothing.
-use borrow.Author.Rules.{rules}
 use Rattle.flat.specs.Taking.{FlatReady}
-use Rattle.flat.proofs.Flattening.{Taking, taking_start, inside, fits, place, room_pass, groups_node, loose_node, pass_at, node_ready, node_at, taken}
+use Rattle.flat.proofs.Flattening.{Taking}
 use Rattle.cursor.specs.Own.{own_of}
-use Prim.Native.Nat.{◌+◌, ◌-◌, ◌*◌, ◌≤◌}
-use native.Mathlib.Omega.{arith}
-use lib.ListN.{length}
 use Rattle.flat.proofs.take_flat.Given as goal
 
 abbrev pub invariant-loop-at : goal.invariant-loop-at

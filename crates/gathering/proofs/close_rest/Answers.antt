@@ -1,6 +1,5 @@
 -- `gathering::close_rest` meets its contract: a group, or nothing where no child is left over. Assumes nothing.
 use Rattle.gathering.proofs.Passing.{rest_close, rest_on}
-use borrow.Author.Rules.{rules}
 use Rattle.gathering.proofs.close_rest.Goals as goal
 
 pub returns-then-loose-eq0 : goal.returns-then-loose-eq0

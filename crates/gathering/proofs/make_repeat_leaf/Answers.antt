@@ -1,6 +1,5 @@
 -- `gathering::make_repeat_leaf` meets its contract: the loose children under a new node. Assumes nothing.
 use Rattle.gathering.proofs.Closing.{closed}
-use borrow.Author.Rules.{rules}
 use Rattle.gathering.proofs.make_repeat_leaf.Goals as goal
 
 pub returns : goal.returns

@@ -1,7 +1,6 @@
 -- `gathering::pass_over` meets its contract: a group where the end and the bound come to at most the last group end. Assumes nothing.
 use Rattle.gathering.proofs.Passing.{passed_close, passed_on}
 use native.Mathlib.Omega.{arith}
-use borrow.Author.Rules.{rules}
 use Rattle.gathering.proofs.pass_over.Goals as goal
 
 pub returns-then-end-bound : goal.returns-then-end-bound

@@ -1,5 +1,4 @@
 -- `listing::depth_below` meets its contract: each return is one side of the test. Assumes nothing.
-use borrow.Author.Rules.{rules}
 use Rattle.listing.proofs.depth_below.Goals as goal
 
 pub returns-then-listed : goal.returns-then-listed

@@ -2,7 +2,6 @@
 use native.Mathlib.Nat.{add-zero}
 use borrow.Author.Tests.{eq-eqb, ne_eqb}
 use Rattle.listing.specs.Steps.{child_of}
-use borrow.Author.Rules.{rules}
 use Rattle.listing.proofs.first_child.Goals as goal
 
 pub returns-then-cells-i-eq2 : goal.returns-then-cells-i-eq2

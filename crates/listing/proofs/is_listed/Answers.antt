@@ -2,7 +2,6 @@
 use native.Mathlib.Nat.{add-zero}
 use borrow.Author.Tests.{eq-eqb, ne_eqb}
 use Rattle.listing.specs.Steps.{is_listed}
-use borrow.Author.Rules.{rules}
 use Rattle.listing.proofs.is_listed.Goals as goal
 
 pub returns-then-cells-i-ne1 : goal.returns-then-cells-i-ne1

@@ -1,5 +1,4 @@
 -- `listing::list` meets its contract: each return is one case of the call. Assumes nothing.
-use borrow.Author.Rules.{rules}
 use borrow.Author.Tests.{ltb-true, ltb-false}
 use mathlib.Core.Path.{◌≡◌, sym, ap, ◌∙◌}
 use mathlib.Core.List.{List}
@@ -78,7 +77,7 @@ returns-then-too_little_work c =
     little_work (T (goal.at.returns-then-too_little_work c).Start) (F (goal.at.returns-then-too_little_work c).Start) (S (goal.at.returns-then-too_little_work c).Start) (cs (goal.at.returns-then-too_little_work c).Start) (ws (goal.at.returns-then-too_little_work c).Start) (work (goal.at.returns-then-too_little_work c).Start) (out (goal.at.returns-then-too_little_work c).Start) c.if-types-gt65536.false (ltb-true (work (goal.at.returns-then-too_little_work c).Start) (96 * items (cs (goal.at.returns-then-too_little_work c).Start) (ws (goal.at.returns-then-too_little_work c).Start) + 96) little)
 
 pub tree_check-requires : goal.tree_check-requires
-tree_check-requires c =  record { types_bound = few_types (goal.at.tree_check-requires c).Else-too_little_work; words_in_bounds = work_lent (goal.at.tree_check-requires c).Else-too_little_work }
+tree_check-requires c = record { types_bound = few_types (goal.at.tree_check-requires c).Else-too_little_work; words_in_bounds = work_lent (goal.at.tree_check-requires c).Else-too_little_work }
 
 pub returns-in-At : goal.returns-in-At
 returns-in-At c =

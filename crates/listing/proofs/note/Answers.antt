@@ -5,7 +5,6 @@ use mathlib.Core.Path.{sym}
 use borrow.Author.Tests.{ne_eqb}
 use Rattle.listing.specs.Steps.{noted}
 use Rattle.listing.proofs.Turns.{noted_none}
-use borrow.Author.Rules.{rules}
 use Rattle.listing.proofs.note.Goals as goal
 
 pub returns-then-x-eq0 : goal.returns-then-x-eq0

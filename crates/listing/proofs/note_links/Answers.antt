@@ -6,7 +6,6 @@ use native.Mathlib.Omega.{arith}
 use lib.ListN.{get_or}
 use Rattle.listing.specs.Steps.{noted, links_noted}
 use Rattle.tree.specs.Cells.{cell_width, position_place}
-use borrow.Author.Rules.{rules}
 use Rattle.listing.proofs.note_links.Goals as goal
 
 pub note-requires-2 : goal.note-requires-2

@@ -7,7 +7,6 @@ use lib.ListN.{length}
 use Rattle.words.specs.Words.{put}
 use Rattle.listing.specs.Steps.{own_line, cell_lines}
 use Rattle.listing.proofs.Lines.{lines_other}
-use borrow.Author.Rules.{rules}
 use Rattle.listing.proofs.put_lines.Goals as goal
 
 pub put_part-requires : goal.put_part-requires

@@ -10,7 +10,6 @@ use Rattle.part_lines.specs.Steps as part
 use Rattle.listing.specs.Steps.{cell_lines}
 use Rattle.listing.proofs.Lines.{lines_part}
 use Rattle.cells.proofs.Reading.{cut_same}
-use borrow.Author.Rules.{rules}
 use Rattle.listing.proofs.put_part.Goals.{After-index-count}
 use Rattle.listing.proofs.put_part.Goals as goal
 

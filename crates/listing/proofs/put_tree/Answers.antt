@@ -6,7 +6,6 @@ use lib.ListN.{length}
 use Rattle.words.specs.Words.{put}
 use Rattle.listing.specs.Steps.{is_listed, own_line}
 use Rattle.listing.proofs.Writes.{own_some, four_words, no_words, put_none}
-use borrow.Author.Rules.{rules}
 use Rattle.listing.proofs.put_tree.Goals.{Then-is_listed}
 use Rattle.listing.proofs.put_tree.Goals as goal
 

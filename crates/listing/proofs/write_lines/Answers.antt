@@ -1,9 +1,8 @@
 -- `listing::write_lines` meets its contract. The invariant: the lines of the cells before cell i are written, and what the cells still
 -- to come need is noted. Assumes nothing.
-use borrow.Author.Rules.{rules}
 use mathlib.Core.Path.{◌≡◌, sym, ap, ◌∙◌}
 use mathlib.Core.List.{List}
-use Prim.Native.Nat.{ℕ, ◌-◌, ◌*◌, ◌+◌}
+use Prim.Native.Nat.{ℕ, ◌*◌, ◌+◌}
 use native.Mathlib.Omega.{arith}
 use lib.ListN.{length, get_or}
 use Rattle.tree.specs.Cells.{cell_width, first_place, next_place}

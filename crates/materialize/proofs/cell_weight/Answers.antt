@@ -1,9 +1,8 @@
 -- `materialize::cell_weight` meets its contract: each return is one branch of the definition. Assumes nothing.
 use borrow.Author.Tests.{eq-eqb, ne_eqb}
-use Prim.Native.Nat.{ℕ, ◌-◌, ◌/◌}
+use Prim.Native.Nat.{ℕ, ◌/◌}
 use mathlib.Core.Path.{ap}
 use Rattle.materialize.specs.Steps.{weight}
-use borrow.Author.Rules.{rules}
 use Rattle.materialize.proofs.cell_weight.Goals as goal
 
 pub returns-then-kind-eq2 : goal.returns-then-kind-eq2

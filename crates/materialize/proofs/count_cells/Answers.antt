@@ -2,12 +2,11 @@
 use native.Mathlib.Nat.{add-zero}
 use native.Mathlib.Omega.{arith}
 use lib.ListN.{length}
-use Prim.Native.Nat.{ℕ, ◌+◌, ◌-◌, ◌/◌, ◌≤◌}
+use Prim.Native.Nat.{ℕ, ◌+◌, ◌/◌}
 use mathlib.Core.List.{List}
 use mathlib.Core.Path.{◌≡◌, refl, ap, ◌∙◌}
 use Rattle.materialize.specs.Steps.{cells_before}
 use Rattle.materialize.proofs.Finishing.{before_more, before_mono}
-use borrow.Author.Rules.{rules}
 use Rattle.tree.specs.Cells.{cell_width}
 use Rattle.materialize.proofs.count_cells.Goals.{After-cell_weight-total}
 use Rattle.materialize.proofs.count_cells.Goals as goal

@@ -2,9 +2,8 @@
 use native.Mathlib.Omega.{arith}
 use borrow.Author.Tests.{le-ltb, lt-ltb}
 use lib.ListN.{length}
-use Prim.Native.Nat.{◌+◌, ◌*◌, ◌-◌, ◌<◌}
+use Prim.Native.Nat.{◌+◌, ◌*◌, ◌<◌}
 use Rattle.materialize.specs.Steps.{ended}
-use borrow.Author.Rules.{rules}
 use Rattle.tree.specs.Cells.{cell_width, next_place}
 use Rattle.materialize.proofs.end_links.Goals.{After-index}
 use Rattle.materialize.proofs.end_links.Goals as goal

@@ -1,7 +1,6 @@
 -- `materialize::first_child` meets its contract: each return is one branch of the definition. Assumes nothing.
 use native.Mathlib.Omega.{arith}
 use borrow.Author.Tests.{le-ltb, lt-ltb}
-use Prim.Native.Nat.{◌-◌}
 use Rattle.materialize.specs.Steps.{first_link}
 use Rattle.materialize.proofs.first_child.Goals as goal
 

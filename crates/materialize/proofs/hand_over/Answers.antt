@@ -4,7 +4,6 @@ use Prim.Native.Nat.{ℕ, ◌+◌, ◌-◌, ◌*◌, ◌<◌}
 use mathlib.Core.List.{List}
 use lib.ListN.{length}
 use Rattle.materialize.proofs.Handing.{Going, going_start, going_reads, going_fits, going_next, going_limit, going_none}
-use borrow.Author.Rules.{rules}
 use Rattle.tree.specs.Cells.{cell_width, position_place}
 use Rattle.materialize.proofs.hand_over.Goals.{After-index-root, At-loop-left, In-loop-left}
 use Rattle.materialize.proofs.hand_over.Goals as goal

@@ -1,9 +1,7 @@
 -- `materialize::inside` meets its contract: each return is one branch of the definition. Assumes nothing.
 use native.Mathlib.Omega.{arith}
-use Prim.Native.Nat.{◌-◌}
 use mathlib.Core.Path.{refl}
 use Rattle.materialize.specs.Steps.{inner_count}
-use borrow.Author.Rules.{rules}
 use Rattle.materialize.proofs.inside.Goals as goal
 
 pub returns-then-stop-off : goal.returns-then-stop-off

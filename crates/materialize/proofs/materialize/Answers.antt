@@ -2,7 +2,7 @@
 use native.Mathlib.Omega.{arith}
 use lib.Dec.{ltb}
 use lib.ListN.{length}
-use Prim.Native.Nat.{ℕ, ◌+◌, ◌-◌, ◌*◌, ◌≤◌}
+use Prim.Native.Nat.{ℕ, ◌+◌, ◌*◌, ◌≤◌}
 use mathlib.Core.Bool.{false}
 use mathlib.Core.List.{List}
 use mathlib.Core.Option.{none}
@@ -14,7 +14,6 @@ use Rattle.rules.specs.Calls.{items}
 use Rattle.rules.proofs.PartRead.{short_of}
 use Rattle.materialize.proofs.Accepting.{total_few}
 use Rattle.materialize.proofs.Calling.{refuses_types, refuses_work, lent, refuses_cell, refuses_many, refuses_room, accepts, ready}
-use borrow.Author.Rules.{rules}
 use Rattle.materialize.proofs.materialize.Goals.{Else-too_little_work, Else-types-gt65536, In_default, Start}
 use Rattle.materialize.proofs.materialize.Goals as goal
 
@@ -66,7 +65,7 @@ returns-then-too_little_work c =
     refuses_work (types (goal.at.returns-then-too_little_work c).Start) (cs (goal.at.returns-then-too_little_work c).Start) (ws (goal.at.returns-then-too_little_work c).Start) (work (goal.at.returns-then-too_little_work c).Start) (out (goal.at.returns-then-too_little_work c).Start) (few_types (goal.at.returns-then-too_little_work c).Else-types-gt65536) little
 
 pub tree_check-requires : goal.tree_check-requires
-tree_check-requires c =  record { types_bound = few_types (goal.at.tree_check-requires c).Else-types-gt65536; words_in_bounds = work_lent (goal.at.tree_check-requires c).Else-too_little_work }
+tree_check-requires c = record { types_bound = few_types (goal.at.tree_check-requires c).Else-types-gt65536; words_in_bounds = work_lent (goal.at.tree_check-requires c).Else-too_little_work }
 
 pub returns-in-At : goal.returns-in-At
 returns-in-At c =

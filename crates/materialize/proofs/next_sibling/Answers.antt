@@ -1,9 +1,7 @@
 -- `materialize::next_sibling` meets its contract: each return is one branch of the definition. Assumes nothing.
 use native.Mathlib.Omega.{arith}
 use borrow.Author.Tests.{eq-eqb, ne_eqb}
-use Prim.Native.Nat.{◌-◌}
 use Rattle.materialize.specs.Steps.{next_link}
-use borrow.Author.Rules.{rules}
 use Rattle.materialize.proofs.next_sibling.Goals as goal
 
 pub returns-then-kept-eq0 : goal.returns-then-kept-eq0

@@ -1,7 +1,5 @@
 -- `materialize::place_cell` meets its contract: a part and a tree are placed by their own functions. Assumes nothing.
-use Prim.Native.Nat.{◌-◌}
 use native.Mathlib.Nat.{add-zero}
-use borrow.Author.Rules.{rules}
 use Rattle.materialize.proofs.place_cell.Goals as goal
 
 pub place_part-requires : goal.place_part-requires

@@ -7,7 +7,6 @@ use mathlib.Core.Path.{◌≡◌, ap}
 use Rattle.materialize.specs.Steps.{NextPart, Packed}
 use Rattle.materialize.proofs.Placing.{part_ready, part_few, part_wrote}
 use Rattle.cells.proofs.Reading.{cut_same}
-use borrow.Author.Rules.{rules}
 use Rattle.tree.specs.Cells.{cell_position, cell_first, cell_count, part_at}
 use Rattle.materialize.proofs.place_part.Goals.{After-index-count}
 use Rattle.materialize.proofs.place_part.Goals as goal

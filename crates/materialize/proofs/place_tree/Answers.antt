@@ -6,7 +6,6 @@ use mathlib.Core.List.{List}
 use mathlib.Core.Path.{◌≡◌, ap, ◌∙◌}
 use Rattle.materialize.specs.Steps.{Taken, NextCell, trees_left}
 use Rattle.materialize.proofs.Placing.{tree_ready, tree_few, tree_wrote}
-use borrow.Author.Rules.{rules}
 use Rattle.tree.specs.Cells.{cell_count}
 use Rattle.materialize.proofs.place_tree.Goals.{After-staying-kept}
 use Rattle.materialize.proofs.place_tree.Goals as goal

@@ -1,9 +1,7 @@
 -- `materialize::push` meets its contract: one more tree before its siblings. Assumes nothing.
 use native.Mathlib.Omega.{arith}
-use Prim.Native.Nat.{◌-◌}
 use Rattle.materialize.specs.Steps.{Fit}
 use Rattle.materialize.proofs.Pushing.{taken_fits, push_law}
-use borrow.Author.Rules.{rules}
 use Rattle.materialize.proofs.push.Goals.{Start}
 use Rattle.materialize.proofs.push.Goals as goal
 
@@ -14,10 +12,10 @@ pub first_child-first-requires : goal.first_child-first-requires
 first_child-first-requires c = (fits (goal.at.first_child-first-requires c).Start).first
 
 pub next_sibling-next-requires : goal.next_sibling-next-requires
-next_sibling-next-requires c =  record { kept_in_bounds = omega (arith, (fits (goal.at.next_sibling-next-requires c).Start).deep); kept_bound = (fits (goal.at.next_sibling-next-requires c).Start).next }
+next_sibling-next-requires c = record { kept_in_bounds = omega (arith, (fits (goal.at.next_sibling-next-requires c).Start).deep); kept_bound = (fits (goal.at.next_sibling-next-requires c).Start).next }
 
 pub end_links-requires : goal.end_links-requires
-end_links-requires c =  record { kept_in_bounds = (λ h. (fits (goal.at.end_links-requires c).Start).deep); next_place_in_bounds = (fits (goal.at.end_links-requires c).Start).last }
+end_links-requires c = record { kept_in_bounds = (λ h. (fits (goal.at.end_links-requires c).Start).deep); next_place_in_bounds = (fits (goal.at.end_links-requires c).Start).last }
 
 pub overflow_mul-cell : goal.overflow_mul-cell
 overflow_mul-cell c = omega (arith, (fits (goal.at.overflow_mul-cell c).Start).cell)

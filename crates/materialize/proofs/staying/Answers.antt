@@ -1,9 +1,7 @@
 -- `materialize::staying` meets its contract: each return is one branch of the definition. Assumes nothing.
 use native.Mathlib.Omega.{arith}
 use borrow.Author.Tests.{le-ltb, lt-ltb}
-use Prim.Native.Nat.{◌-◌}
 use Rattle.materialize.specs.Steps.{trees_left}
-use borrow.Author.Rules.{rules}
 use Rattle.materialize.proofs.staying.Goals as goal
 
 pub returns-then-marks-left : goal.returns-then-marks-left

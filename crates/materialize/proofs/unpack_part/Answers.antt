@@ -7,7 +7,6 @@ use Prim.Native.Nat.{ℕ, ◌+◌, ◌*◌, ◌-◌, ◌≤◌, ◌<◌}
 use mathlib.Core.List.{List}
 use mathlib.Core.Path.{◌≡◌, ap, ap₂, ◌∙◌}
 use lib.ListN.{length}
-use borrow.Author.Rules.{rules}
 use Rattle.materialize.proofs.unpack_part.Goals.{After-hand_over-kept, After-inside, In-loop-i}
 use Rattle.materialize.proofs.unpack_part.Goals as goal
 

@@ -1,8 +1,5 @@
 -- `materialize::write_back` meets its contract: the invariant: the cells passed, from the last one back, stand written. Assumes nothing.
-use native.Mathlib.Omega.{arith}
-use Prim.Native.Nat.{ℕ, ◌-◌}
-use mathlib.Core.List.{List}
-use Rattle.materialize.proofs.Finishing.{Writing, writing_start, writing_next, writing_at, writing_end}
+use Rattle.materialize.proofs.Finishing.{Writing}
 use Rattle.materialize.proofs.write_back.Given as goal
 
 abbrev pub invariant-loop-i : goal.invariant-loop-i

@@ -1,12 +1,11 @@
 -- `pack::copy_to_buffer` meets its contract: a node's descendants are copied from the back, and its own words below them. The
 -- records that are left fall with each call.
-use mathlib.Core.Path.{◌≡◌, sym, ◌∙◌}
-use Prim.Native.Nat.{ℕ, ◌-◌, ◌/◌, ◌%◌, ◌<◌}
+use mathlib.Core.Path.{sym, ◌∙◌}
+use Prim.Native.Nat.{◌/◌, ◌<◌}
 use native.Mathlib.Omega.{arith}
-use lib.ListN.{length, take}
+use lib.ListN.{length}
 use lib.Seq.{length-take-le}
-use Rattle.tree.specs.Items.{Items}
-use Rattle.pack.specs.Copying.{span_start, Ready, Copies}
+use Rattle.pack.specs.Copying.{span_start}
 use Rattle.pack.proofs.Copy as L
 use Rattle.pack.proofs.Parts as P
 use Rattle.pack.proofs.+copy_to_buffer.Goals as goal

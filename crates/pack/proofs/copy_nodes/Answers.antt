@@ -1,17 +1,12 @@
 -- `pack::copy_nodes` meets its contract: the nodes are copied one by one from the back, until the part is full. Assumes nothing.
 use mathlib.Core.Path.{◌≡◌, sym}
-use Prim.Native.Nat.{◌/◌, ◌%◌, ◌≤◌, ◌<◌}
+use Prim.Native.Nat.{◌/◌, ◌<◌}
 use native.Mathlib.Omega.{arith}
 use lib.ListN.{length, take}
 use lib.Seq.{length-take-le}
-use Rattle.tree.specs.Items.{Items}
-use Rattle.pack.specs.Copying.{Copies, Fills}
+use Rattle.pack.specs.Copying.{Copies}
 use Rattle.pack.proofs.Copy as L
 use Rattle.pack.proofs.Parts as P
-use Rattle.pack.proofs.copy_nodes.Reads as reads
-use Rattle.pack.proofs.copy_nodes.Lts as lts
-use Rattle.pack.proofs.copy_to_buffer.Reads as copy-to-buffer-reads
-use Rattle.pack.proofs.skip_node.Reads as skip-node-reads
 use Rattle.pack.proofs.copy_nodes.Goals.{At-loop-q, In-loop-q}
 use Rattle.pack.proofs.copy_nodes.Goals as goal
 
@@ -59,8 +54,7 @@ loop-q-smaller c = omega (arith, c.skip_node-q.ensures, (step_at (goal.at.loop-q
 
 pub loop-q-preserved : goal.loop-q-preserved
 loop-q-preserved c =
-    let z = step_at (goal.at.loop-q-preserved c).In-loop-q in
-    (
+    let z = step_at (goal.at.loop-q-preserved c).In-loop-q in (
       omega (arith, c.skip_node-q.ensures, z.whole),
       omega (arith, c.skip_node-q.ensures, z.less, c.loop-q.invariant.1),
       λ its h.

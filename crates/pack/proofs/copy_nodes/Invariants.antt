@@ -1,17 +1,9 @@
 -- `pack::copy_nodes` meets its contract: the nodes are copied one by one from the back, until the part is full. Assumes nothing.
-use mathlib.Core.Path.{◌≡◌, sym}
-use Prim.Native.Nat.{◌/◌, ◌%◌, ◌≤◌, ◌<◌}
-use native.Mathlib.Omega.{arith}
-use lib.ListN.{length, take}
-use lib.Seq.{length-take-le}
+use mathlib.Core.Path.{◌≡◌}
+use Prim.Native.Nat.{◌/◌, ◌%◌, ◌≤◌}
+use lib.ListN.{length}
 use Rattle.tree.specs.Items.{Items}
 use Rattle.pack.specs.Copying.{Copies, Fills}
-use Rattle.pack.proofs.Copy as L
-use Rattle.pack.proofs.Parts as P
-use Rattle.pack.proofs.copy_nodes.Reads as reads
-use Rattle.pack.proofs.copy_nodes.Lts as lts
-use Rattle.pack.proofs.copy_to_buffer.Reads as copy-to-buffer-reads
-use Rattle.pack.proofs.skip_node.Reads as skip-node-reads
 use Rattle.pack.proofs.copy_nodes.Given as goal
 
 abbrev pub invariant-loop-q : goal.invariant-loop-q

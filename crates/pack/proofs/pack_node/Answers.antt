@@ -1,12 +1,8 @@
 -- `pack::pack_node` meets its contract: the run's words fill the part of the work slice below `low`. Assumes nothing.
-use borrow.Author.Rules.{rules}
 use mathlib.Core.Path.{sym}
 use Prim.Native.Nat.{◌*◌}
 use lib.Seq.{length-take-le}
 use Rattle.pack.proofs.Pack.{packable_fillable, packable_filled}
-use Rattle.pack.proofs.pack_node.Reads as reads
-use Rattle.pack.proofs.pack_node.Lts as lts
-use Rattle.pack.proofs.copy_nodes.Reads as copy-nodes-reads
 use Rattle.pack.proofs.pack_node.Goals as goal
 
 pub slice_bounds-copy_nodes-end : goal.slice_bounds-copy_nodes-end

@@ -2,7 +2,6 @@
 use lib.ListN.{length-set}
 use native.Mathlib.Omega.{arith}
 use Rattle.words.proofs.Stores.{put_four}
-use borrow.Author.Rules.{rules}
 use Rattle.pack.proofs.put_packed.Goals as goal
 
 pub bounds-part-at-2 : goal.bounds-part-at-2

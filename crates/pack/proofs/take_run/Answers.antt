@@ -1,15 +1,7 @@
 -- `pack::take_run` meets its contract: a run that the scan answers is packed, else nothing is changed. Assumes nothing.
-use borrow.Author.Rules.{rules}
 use native.Mathlib.Omega.{arith}
 use Rattle.cursor.specs.Own.{own_of}
 use Rattle.pack.proofs.Taking as L
-use Rattle.pack.proofs.take_run.Reads as reads
-use Rattle.pack.proofs.take_run.Lts as lts
-use Rattle.pack.proofs.left_by.Reads as left-by-reads
-use Rattle.pack.proofs.pack_node.Reads as pack-node-reads
-use Rattle.records.proofs.end_at.Reads as end-at-reads
-use Rattle.records.proofs.start_at.Reads as start-at-reads
-use Rattle.scan.proofs.find_buffer_size.Reads as find-buffer-size-reads
 use Rattle.pack.proofs.take_run.Goals as goal
 
 pub returns-then-bound-end : goal.returns-then-bound-end

@@ -1,7 +1,5 @@
 -- `part::check_record` meets its contract: the array of open ends decides 20, and as many stay open as records enclose the present one.
 -- Assumes nothing.
-use borrow.Author.Rules.{rules}
-use mathlib.Core.Logic.{⊎_elim}
 use mathlib.Core.List.{List}
 use mathlib.Core.Path.{◌≡◌, refl, sym, ap, ◌∙◌}
 use Prim.Native.Nat.{ℕ, ◌+◌, ◌-◌, ◌*◌, max, ◌<◌, ◌≤◌}

@@ -1,5 +1,4 @@
 -- `part::end_index` meets its contract. Assumes nothing.
-use borrow.Author.Rules.{rules}
 use Rattle.part.proofs.OneRecord.{below_from, from_on}
 use Rattle.part.proofs.end_index.Goals as goal
 

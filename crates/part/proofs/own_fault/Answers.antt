@@ -1,14 +1,10 @@
 -- `part::own_fault` meets its contract: each return is one branch of the definition. Assumes nothing.
-use borrow.Author.Rules.{rules}
 use mathlib.Core.Path.{◌≡◌, ◌∙◌}
-use Prim.Native.Nat.{ℕ, ◌*◌}
-use native.Mathlib.Omega.{arith}
 use Rattle.part.specs.Part.{end_index}
 use Rattle.part.specs.Rebased.{rebased}
 use Rattle.part.proofs.OneRecord.{id_past, reversed, early, past, uneven, none_applies}
 use Rattle.part.proofs.own_fault.Goals.{After-wide-end}
 use Rattle.part.proofs.own_fault.Goals as goal
-
 
 -- the end index, once it is read
 module _ (c : After-wide-end) where

@@ -1,5 +1,4 @@
 -- `part::part_check` meets its contract: each return is one branch of the definition. Assumes nothing.
-use borrow.Author.Rules.{rules}
 use borrow.Author.Tests.{le-ltb, lt-ltb, ne_eqb, eq-eqb}
 use mathlib.Core.List.{List}
 use mathlib.Core.Path.{ap, ◌∙◌}

@@ -3,7 +3,6 @@ use lib.ListN.{get_or}
 use native.Mathlib.Decide.{dec_le}
 use native.Mathlib.Nat.{le_refl, lt_irrefl, lt_of_le_of_lt}
 use native.Mathlib.Omega.{arith}
-use borrow.Author.Rules.{rules}
 use Prim.Native.Nat.{ℕ, ◌≤◌, ◌<◌, ◌-◌}
 use mathlib.Core.List.{List}
 use mathlib.Core.Path.{◌≡◌}

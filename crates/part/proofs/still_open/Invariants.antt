@@ -1,12 +1,6 @@
 -- `part::still_open` meets its contract. The invariant: the ends from t on are not above the offset. Assumes nothing.
 use lib.ListN.{get_or}
-use native.Mathlib.Decide.{dec_le}
-use native.Mathlib.Nat.{le_refl, lt_irrefl, lt_of_le_of_lt}
-use native.Mathlib.Omega.{arith}
-use borrow.Author.Rules.{rules}
-use Prim.Native.Nat.{ℕ, ◌≤◌, ◌<◌, ◌-◌}
-use mathlib.Core.List.{List}
-use mathlib.Core.Path.{◌≡◌}
+use Prim.Native.Nat.{ℕ, ◌≤◌, ◌<◌}
 use Rattle.part.proofs.still_open.Given as goal
 
 abbrev pub invariant-loop-t : goal.invariant-loop-t

@@ -1,19 +1,17 @@
 -- `part::validate_buffer` meets its contract. The invariant: the array holds the ends of the open records, the check of the records
 -- from i on gives the same outcome as the check of all, and so do the counts. Assumes nothing.
-use borrow.Author.Rules.{rules}
 use lib.ListN.{length}
 use native.Mathlib.Omega.{arith}
-use Prim.Native.Nat.{ℕ, ◌≤◌, ◌<◌, ◌+◌, ◌-◌, ◌*◌, ◌/◌}
+use Prim.Native.Nat.{ℕ, ◌*◌, ◌/◌}
 use mathlib.Core.List.{List, [], ◌∷◌}
 use mathlib.Core.Path.{◌≡◌, sym, ◌∙◌, refl, ap}
 use Rattle.words.specs.Outcome.{accepted, refused}
 use Rattle.part.specs.Part.{fault, faults_from}
 use Rattle.part.specs.Rebased.{rebased}
-use Rattle.part.specs.Open.{Stack}
 use Rattle.part.proofs.Faults.{from_fault, from_clear, from_end}
 use Rattle.part.proofs.OneRecord.{same_length}
 use Rattle.part.proofs.OpenEnds.{stack_none}
-use Rattle.part.proofs.Counts.{Counted, counted_none, counted_next, counted_greatest, counted_deepest}
+use Rattle.part.proofs.Counts.{counted_none, counted_next, counted_greatest, counted_deepest}
 use Rattle.part.proofs.validate_buffer.Goals.{After-check_record-s}
 use Rattle.part.proofs.validate_buffer.Goals as goal
 
@@ -40,7 +38,7 @@ loop-i-init c =
 
 pub check_record-s-requires : goal.check_record-s-requires
 check_record-s-requires c =
-     record { record_width_len = c.requires.record_width_len; record_width_in_bounds = omega (arith, c.loop-i-test.true); stack = c.loop-i.invariant.2 }
+    record { record_width_len = c.requires.record_width_len; record_width_in_bounds = omega (arith, c.loop-i-test.true); stack = c.loop-i.invariant.2 }
 
 pub returns-then-s-ne0 : goal.returns-then-s-ne0
 returns-then-s-ne0 c =

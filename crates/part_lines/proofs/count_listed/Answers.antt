@@ -1,10 +1,8 @@
 -- `part_lines::count_listed` meets its contract. The invariant: the count and the records from record i on that have a line are those of
 -- all. Assumes nothing.
-use borrow.Author.Rules.{rules}
 use mathlib.Core.Path.{◌≡◌, ◌∙◌}
-use mathlib.Core.Logic.{⊎_elim}
 use mathlib.Core.List.{List}
-use Prim.Native.Nat.{ℕ, ◌+◌, ◌-◌, ◌*◌, ◌≤◌}
+use Prim.Native.Nat.{ℕ, ◌+◌, ◌*◌, ◌≤◌}
 use native.Mathlib.Omega.{arith}
 use borrow.Author.Tests.{lt-ltb, le-ltb}
 use lib.ListN.{length, drop}
@@ -31,12 +29,16 @@ module _ (c : Joined-word-first_repeat) where
   record_in = omega (arith, c.loop-i-test.true)
 
   sum_at : c.if-word-first_repeat.count + listed_in F₁ (drop ((i₁ + 1) * 4) ws₁) ≡ count₁ + listed_in F₁ (drop (i₁ * 4) ws₁)
-  sum_at = elim c.if-word-first_repeat.branch [ then-word-first_repeat u ↦ listed_hit F₁ ws₁ i₁ count₁ c.if-word-first_repeat.count record_in (lt-ltb (id_of ws₁ i₁) F₁ (omega (arith, u.if-word-first_repeat.true, c.word.ensures))) u.count-is
-    | else-word-first_repeat v ↦ listed_miss F₁ ws₁ i₁ count₁ c.if-word-first_repeat.count record_in (le-ltb (id_of ws₁ i₁) F₁ (omega (arith, v.if-word-first_repeat.false, c.word.ensures))) v.count-is ]
+  sum_at = elim c.if-word-first_repeat.branch [
+    | then-word-first_repeat u ↦ listed_hit F₁ ws₁ i₁ count₁ c.if-word-first_repeat.count record_in (lt-ltb (id_of ws₁ i₁) F₁ (omega (arith, u.if-word-first_repeat.true, c.word.ensures))) u.count-is
+    | else-word-first_repeat v ↦ listed_miss F₁ ws₁ i₁ count₁ c.if-word-first_repeat.count record_in (le-ltb (id_of ws₁ i₁) F₁ (omega (arith, v.if-word-first_repeat.false, c.word.ensures))) v.count-is
+  ]
 
   small_at : c.if-word-first_repeat.count ≤ count₁ + 1
-  small_at = elim c.if-word-first_repeat.branch [ then-word-first_repeat u ↦ omega (arith, u.count-is)
-    | else-word-first_repeat v ↦ omega (arith, v.count-is) ]
+  small_at = elim c.if-word-first_repeat.branch [
+    | then-word-first_repeat u ↦ omega (arith, u.count-is)
+    | else-word-first_repeat v ↦ omega (arith, v.count-is)
+  ]
 
 pub loop-i-preserved : goal.loop-i-preserved
 loop-i-preserved c =

@@ -1,16 +1,9 @@
 -- `part_lines::count_listed` meets its contract. The invariant: the count and the records from record i on that have a line are those of
 -- all. Assumes nothing.
-use borrow.Author.Rules.{rules}
-use mathlib.Core.Path.{◌≡◌, ◌∙◌}
-use mathlib.Core.Logic.{⊎_elim}
-use mathlib.Core.List.{List}
-use Prim.Native.Nat.{ℕ, ◌+◌, ◌-◌, ◌*◌, ◌≤◌}
-use native.Mathlib.Omega.{arith}
-use borrow.Author.Tests.{lt-ltb, le-ltb}
-use lib.ListN.{length, drop}
-use Rattle.words.specs.Words.{id_of}
+use mathlib.Core.Path.{◌≡◌}
+use Prim.Native.Nat.{◌+◌, ◌-◌, ◌*◌, ◌≤◌}
+use lib.ListN.{drop}
 use Rattle.part_lines.specs.Steps.{listed_in}
-use Rattle.part_lines.proofs.Counts.{listed_hit, listed_miss, listed_end}
 use Rattle.part_lines.proofs.count_listed.Given as goal
 
 abbrev pub invariant-loop-i : goal.invariant-loop-i

@@ -1,10 +1,8 @@
 -- `part_lines::list_part` meets its contract. The invariant: the lines of the records before record i are written, and what is still to
 -- be written goes by the end indices that are held. Assumes nothing.
-use borrow.Author.Rules.{rules}
 use mathlib.Core.Path.{◌≡◌, ap, ◌∙◌}
-use mathlib.Core.Logic.{⊎_elim}
 use mathlib.Core.List.{List}
-use Prim.Native.Nat.{ℕ, ◌+◌, ◌-◌, ◌*◌, ◌≤◌, ◌<◌}
+use Prim.Native.Nat.{ℕ, ◌+◌, ◌*◌, ◌≤◌, ◌<◌}
 use native.Mathlib.Omega.{arith}
 use borrow.Author.Tests.{lt-ltb, le-ltb}
 use lib.ListN.{length, set}
@@ -99,10 +97,12 @@ pub loop-i-preserved : goal.loop-i-preserved
 loop-i-preserved c = λ lent.
     let id = id_of (part₁ (goal.at.loop-i-preserved c).After-open_ends-top) (i₁ (goal.at.loop-i-preserved c).After-open_ends-top) in
     let F = c.args.first_repeat in
-    elim c.if-word-first_repeat.branch [ then-word-first_repeat u ↦ walk_hit (lines₀ (goal.at.loop-i-preserved c).After-open_ends-top) (work₀ (goal.at.loop-i-preserved c).After-open_ends-top) lent (c.loop-i.invariant lent) (t₁ (goal.at.loop-i-preserved c).After-open_ends-top) c.open_ends-top.ensures (record_in (goal.at.loop-i-preserved c).After-open_ends-top) (lt-ltb id F (omega (arith, u.if-word-first_repeat.true, c.word.ensures)))
-    c.if-word-first_repeat.work c.if-word-first_repeat.lines c.if-word-first_repeat.top c.if-word-first_repeat.to (u.work-is ∙ ap (set c.loop-i.work (c.args.at + t₁ (goal.at.loop-i-preserved c).After-open_ends-top)) u.word-then-word-first_repeat.ensures) (u.lines-is ∙ u.put_record.ensures) u.top-is u.to-is
-    | else-word-first_repeat v ↦ walk_miss (lines₀ (goal.at.loop-i-preserved c).After-open_ends-top) (work₀ (goal.at.loop-i-preserved c).After-open_ends-top) lent (c.loop-i.invariant lent) (t₁ (goal.at.loop-i-preserved c).After-open_ends-top) c.open_ends-top.ensures (record_in (goal.at.loop-i-preserved c).After-open_ends-top) (le-ltb id F (omega (arith, v.if-word-first_repeat.false, c.word.ensures)))
-    c.if-word-first_repeat.work c.if-word-first_repeat.lines c.if-word-first_repeat.top c.if-word-first_repeat.to v.work-is v.lines-is v.top-is v.to-is ]
+    elim c.if-word-first_repeat.branch [
+      | then-word-first_repeat u ↦ walk_hit (lines₀ (goal.at.loop-i-preserved c).After-open_ends-top) (work₀ (goal.at.loop-i-preserved c).After-open_ends-top) lent (c.loop-i.invariant lent) (t₁ (goal.at.loop-i-preserved c).After-open_ends-top) c.open_ends-top.ensures (record_in (goal.at.loop-i-preserved c).After-open_ends-top) (lt-ltb id F (omega (arith, u.if-word-first_repeat.true, c.word.ensures)))
+          c.if-word-first_repeat.work c.if-word-first_repeat.lines c.if-word-first_repeat.top c.if-word-first_repeat.to (u.work-is ∙ ap (set c.loop-i.work (c.args.at + t₁ (goal.at.loop-i-preserved c).After-open_ends-top)) u.word-then-word-first_repeat.ensures) (u.lines-is ∙ u.put_record.ensures) u.top-is u.to-is
+      | else-word-first_repeat v ↦ walk_miss (lines₀ (goal.at.loop-i-preserved c).After-open_ends-top) (work₀ (goal.at.loop-i-preserved c).After-open_ends-top) lent (c.loop-i.invariant lent) (t₁ (goal.at.loop-i-preserved c).After-open_ends-top) c.open_ends-top.ensures (record_in (goal.at.loop-i-preserved c).After-open_ends-top) (le-ltb id F (omega (arith, v.if-word-first_repeat.false, c.word.ensures)))
+          c.if-word-first_repeat.work c.if-word-first_repeat.lines c.if-word-first_repeat.top c.if-word-first_repeat.to v.work-is v.lines-is v.top-is v.to-is
+    ]
 
 pub shape_of-work : goal.shape_of-work
 shape_of-work c = (c.loop-i.invariant c.requires).sized

@@ -1,18 +1,9 @@
 -- `part_lines::list_part` meets its contract. The invariant: the lines of the records before record i are written, and what is still to
 -- be written goes by the end indices that are held. Assumes nothing.
-use borrow.Author.Rules.{rules}
-use mathlib.Core.Path.{◌≡◌, ap, ◌∙◌}
-use mathlib.Core.Logic.{⊎_elim}
-use mathlib.Core.List.{List}
-use Prim.Native.Nat.{ℕ, ◌+◌, ◌-◌, ◌*◌, ◌≤◌, ◌<◌}
-use native.Mathlib.Omega.{arith}
-use borrow.Author.Tests.{lt-ltb, le-ltb}
-use lib.ListN.{length, set}
-use Rattle.words.specs.Words.{id_of}
-use lib.Dec.{ltb}
-use mathlib.Core.Bool.{true}
+use Prim.Native.Nat.{◌-◌}
+use lib.ListN.{length}
 use Rattle.part_lines.specs.Steps.{Lent}
-use Rattle.part_lines.proofs.Walk.{Walk, walk_first, walk_end, out_length, walk_miss, line_fits, depth_fits, ranges_fit, end_fits, walk_hit}
+use Rattle.part_lines.proofs.Walk.{Walk}
 use Rattle.part_lines.proofs.list_part.Given as goal
 
 abbrev pub invariant-loop-i : goal.invariant-loop-i

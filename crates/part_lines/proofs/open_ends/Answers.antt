@@ -1,10 +1,7 @@
 -- `part_lines::open_ends` meets its contract. The invariant: the ends above t are passed. Assumes nothing.
-use borrow.Author.Rules.{rules}
-use mathlib.Core.Path.{◌≡◌, refl, sym, ◌∙◌}
-use Prim.Native.Nat.{◌≤◌}
+use mathlib.Core.Path.{refl, sym, ◌∙◌}
 use native.Mathlib.Nat.{le_refl}
 use native.Mathlib.Omega.{arith}
-use Rattle.part_lines.specs.Steps.{still_open}
 use Rattle.part_lines.proofs.Ends.{still_on, still_off, still_none}
 use Rattle.part_lines.proofs.open_ends.Goals as goal
 

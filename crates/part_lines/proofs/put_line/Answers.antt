@@ -2,7 +2,6 @@
 use lib.ListN.{length-set}
 use native.Mathlib.Omega.{arith}
 use Rattle.words.proofs.Stores.{put_four}
-use borrow.Author.Rules.{rules}
 use Rattle.part_lines.proofs.put_line.Goals as goal
 
 pub bounds-lines-at-2 : goal.bounds-lines-at-2

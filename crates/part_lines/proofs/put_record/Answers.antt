@@ -1,5 +1,4 @@
 -- `part_lines::put_record` meets its contract: the words of the line are those of the record. Assumes nothing.
-use borrow.Author.Rules.{rules}
 use Rattle.part_lines.proofs.put_record.Goals as goal
 
 pub returns : goal.returns

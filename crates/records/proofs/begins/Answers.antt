@@ -1,7 +1,6 @@
 -- `records::begins` meets its contract: the two tests are those of `begins_at`. Assumes nothing.
 use Prim.Native.Nat.{◌+◌, ◌*◌}
 use native.Mathlib.Omega.{arith}
-use borrow.Author.Rules.{rules}
 use Rattle.records.proofs.Stack as K
 use Rattle.records.proofs.begins.Goals as goal
 

@@ -2,7 +2,6 @@
 use mathlib.Core.Path.{sym, ap, ◌∙◌}
 use Prim.Native.Nat.{ℕ}
 use native.Mathlib.Omega.{arith}
-use borrow.Author.Rules.{rules}
 use Rattle.records.specs.Forest.{behind}
 use Rattle.records.specs.Parse.{nearest}
 use Rattle.records.specs.Taking.{finished}

@@ -1,6 +1,5 @@
 -- `records::check` meets its contract: each test of the code is one of the definition's, in its order. Assumes nothing.
 use borrow.Author.Tests.{le-ltb, lt-ltb, le-leb, lt-leb, eq-eqb, ne_eqb}
-use borrow.Author.Rules.{rules}
 use Rattle.records.specs.Check.{check}
 use Rattle.records.proofs.check.Goals as goal
 

@@ -1,9 +1,8 @@
 -- `records::check_ranges` meets its contract: the invariant is `LowestRecord` before each record, from the laws of proofs/LowestRecord.
 -- Assumes nothing.
 use mathlib.Core.Path.{refl}
-use Prim.Native.Nat.{◌-◌, ◌/◌}
+use Prim.Native.Nat.{◌/◌}
 use native.Mathlib.Omega.{arith}
-use borrow.Author.Rules.{rules}
 use lib.ListN.{length}
 use Rattle.records.proofs.LowestRecord as L
 use Rattle.records.proofs.check_ranges.Goals.{After-loop-i}

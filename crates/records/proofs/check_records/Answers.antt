@@ -1,5 +1,4 @@
 -- `records::check_records` meets its contract, by cases of what the scan says. Assumes nothing.
-use borrow.Author.Rules.{rules}
 use Rattle.records.proofs.Answers as A
 use Rattle.records.proofs.check_records.Goals as goal
 

@@ -1,5 +1,4 @@
 -- `records::covers` meets its contract: its two tests are those of `reaches`. Assumes nothing.
-use borrow.Author.Rules.{rules}
 use Rattle.records.proofs.Faults as F
 use Rattle.records.proofs.covers.Goals as goal
 

@@ -1,5 +1,4 @@
 -- `records::follows` meets its contract: the record before `from` is the last sibling of those before it. Assumes nothing.
-use borrow.Author.Rules.{rules}
 use Rattle.records.proofs.Spelling as S
 use Rattle.records.proofs.follows.Goals as goal
 

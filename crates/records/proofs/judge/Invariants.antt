@@ -1,7 +1,5 @@
 -- `records::judge` meets its contract: the invariant is `Judging` where `left` records are still to be judged, from the laws of
 -- proofs/Judging. Assumes nothing.
-use native.Mathlib.Omega.{arith}
-use borrow.Author.Rules.{rules}
 use Rattle.records.proofs.Judging as J
 use Rattle.records.proofs.judge.Given as goal
 

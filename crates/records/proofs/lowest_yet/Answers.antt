@@ -1,6 +1,5 @@
 -- `records::lowest_yet` meets its contract, by arithmetic. Assumes nothing.
 use native.Mathlib.Omega.{arith}
-use borrow.Author.Rules.{rules}
 use Rattle.records.proofs.lowest_yet.Goals as goal
 
 pub returns-then-i-low : goal.returns-then-i-low

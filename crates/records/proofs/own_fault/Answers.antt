@@ -1,5 +1,4 @@
 -- `records::own_fault` meets its contract: each return is one law of proofs/Faults. Assumes nothing.
-use borrow.Author.Rules.{rules}
 use Rattle.records.proofs.Faults as F
 use Rattle.records.proofs.own_fault.Goals as goal
 

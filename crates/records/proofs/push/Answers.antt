@@ -1,6 +1,5 @@
 -- `records::push` meets its contract: three stores within the slice. Assumes nothing.
 use native.Mathlib.Omega.{arith}
-use borrow.Author.Rules.{rules}
 use lib.ListN.{length-set}
 use Rattle.records.proofs.push.Goals as goal
 

@@ -1,11 +1,6 @@
 -- `records::scan_records` meets its contract: the invariant is `Scanning` before each record, and each way through the loop is
 -- one law of proofs/Scanning. Assumes nothing.
-use mathlib.Core.Path.{◌≡◌, refl, sym, ◌∙◌}
-use Prim.Native.Nat.{◌+◌, ◌-◌, ◌*◌, ◌/◌, ◌<◌}
-use native.Mathlib.Omega.{arith}
-use borrow.Author.Tests.{not-true, not-false}
-use borrow.Author.Rules.{rules}
-use lib.ListN.{length, get_or}
+use Prim.Native.Nat.{◌-◌}
 use Rattle.records.proofs.Scanning as C
 use Rattle.records.proofs.scan_records.Given as goal
 

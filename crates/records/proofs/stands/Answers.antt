@@ -1,5 +1,4 @@
 -- `records::stands` meets its contract: each return is one law of proofs/Faults. Assumes nothing.
-use borrow.Author.Rules.{rules}
 use Rattle.records.proofs.Faults as F
 use Rattle.records.proofs.stands.Goals as goal
 

@@ -10,11 +10,9 @@ use Rattle.build.specs.Answer.{given_length, built_outcome}
 use Rattle.build.specs.declared.Built.TheVariants as Built
 use Rattle.listing.specs.Answer.{listed_outcome}
 use Rattle.listing.specs.declared.Listed.{Listed}
-use Rattle.listing.specs.declared.Listed.TheVariants as Listed
 use Rattle.run.specs.Running.{none_left, followed, one_work, run_call}
 use Rattle.run.proofs.Fitting.{build_fits}
 use Rattle.run.proofs.Stepping.{result, run_refused, run_listed}
-use borrow.Author.Rules.{rules}
 use Rattle.tree.specs.Cells.{cell_width}
 use Rattle.run.proofs.run.Goals.{After-build, After-list, In-Cells}
 use Rattle.run.proofs.run.Goals as goal

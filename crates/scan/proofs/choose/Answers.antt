@@ -1,5 +1,4 @@
 -- `scan::choose` meets its contract: the whole walk or the run noted last, decided. Assumes nothing.
-use borrow.Author.Rules.{rules}
 use Rattle.scan.proofs.Tests as T
 use Rattle.scan.proofs.choose.Goals as goal
 

@@ -1,10 +1,9 @@
 -- `scan::count_repeats` meets its contract: the counts are written from the first place on, and nothing else. Assumes nothing.
 use mathlib.Core.Path.{◌∙◌}
-use Prim.Native.Nat.{◌-◌, ◌<◌}
+use Prim.Native.Nat.{◌<◌}
 use native.Mathlib.Omega.{arith}
-use borrow.Author.Rules.{rules}
 use lib.ListN.{length, set, length-set}
-use Rattle.scan.proofs.Counts.{Tally, tally_none, tally_small, tally_next, tally_end, counting_from, first_zero}
+use Rattle.scan.proofs.Counts.{tally_none, tally_small, tally_next, tally_end, counting_from, first_zero}
 use Rattle.scan.proofs.count_repeats.Goals as goal
 
 pub loop-i-init : goal.loop-i-init

@@ -1,10 +1,6 @@
 -- `scan::count_repeats` meets its contract: the counts are written from the first place on, and nothing else. Assumes nothing.
-use mathlib.Core.Path.{◌∙◌}
-use Prim.Native.Nat.{◌-◌, ◌<◌}
-use native.Mathlib.Omega.{arith}
-use borrow.Author.Rules.{rules}
-use lib.ListN.{length, set, length-set}
-use Rattle.scan.proofs.Counts.{Tally, tally_none, tally_small, tally_next, tally_end, counting_from, first_zero}
+use Prim.Native.Nat.{◌-◌}
+use Rattle.scan.proofs.Counts.{Tally}
 use Rattle.scan.proofs.count_repeats.Given as goal
 
 abbrev pub invariant-loop-i : goal.invariant-loop-i

@@ -1,5 +1,4 @@
 -- `scan::decide` meets its contract: a run that packs, or the memo. Assumes nothing.
-use borrow.Author.Rules.{rules}
 use Rattle.scan.proofs.Tests as T
 use Rattle.scan.proofs.decide.Goals as goal
 

@@ -1,10 +1,8 @@
 -- `scan::find_buffer_size` meets its contract: each turn of the walk keeps what a walk up to there is, and each way out of it leaves the answer. Assumes nothing.
 use mathlib.Core.Bool.{false}
-use mathlib.Core.Logic.{⊎_elim}
 use mathlib.Core.Path.{◌≡◌, sym, ap, ◌∙◌}
 use Prim.Native.Nat.{ℕ, ◌+◌, ◌-◌, ◌*◌, ◌/◌, ◌≤◌, ◌<◌}
 use native.Mathlib.Omega.{arith}
-use borrow.Author.Rules.{rules}
 use lib.ListN.{length}
 use Rattle.words.specs.Words.{id_of, last_of}
 use Rattle.tree.specs.Items.{Items, span, same}
@@ -63,24 +61,25 @@ module _ (c : Left-walk) where
       let b = c.args.bound in
       let lim = least_is (goal.at.Left-walk c).After-struct_known-2-1 F i s e kids rest sc in
       elim c.walk-test.branch [
-      else-walk-test t ↦
-      rw (t.p-is, t.start-is, t.mark-is, t.edge-is)
-      (L.left_limit b sc.stands sc.counted lim _ (c.walk.invariant.1 F (span i s e kids rest) sc.stands (begun (goal.at.Left-walk c).After-struct_known-2-1 F i s e kids rest sc)) c.walk.invariant.0 t.walk-test.false)
-      | then-walk-test+then-loop-mark-test+then-p-lo t ↦
-      let v : Walked c.args.at (span i s e kids rest) c.less-least.result t.loop-mark.p c.walk.start t.loop-mark.mark t.loop-mark.edge = t.loop-mark.invariant.3 F (span i s e kids rest) sc.stands (c.walk.invariant.1 F (span i s e kids rest) sc.stands (begun (goal.at.Left-walk c).After-struct_known-2-1 F i s e kids rest sc)) in
-      rw (t.p-is, t.start-is, t.mark-is, t.edge-is)
-      (L.left_limit b sc.stands sc.counted lim _ (W.step_mark sc.stands v t.loop-mark.invariant.0 (sym t.is_mark.ensures ∙ t.loop-mark-test.true)) (W.step_bounds sc.stands v).1 t.if-p-lo.true)
-      | then-walk-test+else-loop-mark-test+then-left-least t ↦
-      let v : Walked c.args.at (span i s e kids rest) c.less-least.result t.loop-mark.p c.walk.start t.loop-mark.mark t.loop-mark.edge = t.loop-mark.invariant.3 F (span i s e kids rest) sc.stands (c.walk.invariant.1 F (span i s e kids rest) sc.stands (begun (goal.at.Left-walk c).After-struct_known-2-1 F i s e kids rest sc)) in
-      rw (t.p-is, t.start-is, t.mark-is, t.edge-is)
-      (L.left_early b sc.stands sc.counted lim _ v t.loop-mark.invariant.2 t.loop-mark.invariant.0 (sym t.is_mark.ensures ∙ t.loop-mark-test.false) (omega (arith, t.start_at-left.ensures, t.if-left-least.true)))
-      | then-walk-test+else-loop-mark-test+else-left-least+then-settled t ↦
-      let w : Walked c.args.at (span i s e kids rest) c.less-least.result t.loop-mark.p c.walk.start t.loop-mark.mark t.loop-mark.edge = t.loop-mark.invariant.3 F (span i s e kids rest) sc.stands (c.walk.invariant.1 F (span i s e kids rest) sc.stands (begun (goal.at.Left-walk c).After-struct_known-2-1 F i s e kids rest sc)) in
-      let v = W.step_span sc.stands w t.loop-mark.invariant.0 (sym t.is_mark.ensures ∙ t.loop-mark-test.false) (omega (arith, t.start_at-left.ensures, t.if-left-least.false)) in
-      let u : Walked c.args.at (span i s e kids rest) c.less-least.result (t.loop-mark.p - t.span_at-p.result) t.start_at-left.result t.loop-mark.mark t.loop-mark.edge =
-      rw (t.span_at-p.ensures, t.start_at-left.ensures) v in
-      rw (t.p-is, t.start-is, t.mark-is, t.edge-is)
-      (L.left_settled b sc.stands sc.counted lim _ u t.loop-mark.invariant.2 (sym t.settled.ensures ∙ t.if-settled.true)) ]
+        | else-walk-test t ↦
+            rw (t.p-is, t.start-is, t.mark-is, t.edge-is)
+            (L.left_limit b sc.stands sc.counted lim _ (c.walk.invariant.1 F (span i s e kids rest) sc.stands (begun (goal.at.Left-walk c).After-struct_known-2-1 F i s e kids rest sc)) c.walk.invariant.0 t.walk-test.false)
+        | then-walk-test+then-loop-mark-test+then-p-lo t ↦
+            let v : Walked c.args.at (span i s e kids rest) c.less-least.result t.loop-mark.p c.walk.start t.loop-mark.mark t.loop-mark.edge = t.loop-mark.invariant.3 F (span i s e kids rest) sc.stands (c.walk.invariant.1 F (span i s e kids rest) sc.stands (begun (goal.at.Left-walk c).After-struct_known-2-1 F i s e kids rest sc)) in
+            rw (t.p-is, t.start-is, t.mark-is, t.edge-is)
+            (L.left_limit b sc.stands sc.counted lim _ (W.step_mark sc.stands v t.loop-mark.invariant.0 (sym t.is_mark.ensures ∙ t.loop-mark-test.true)) (W.step_bounds sc.stands v).1 t.if-p-lo.true)
+        | then-walk-test+else-loop-mark-test+then-left-least t ↦
+            let v : Walked c.args.at (span i s e kids rest) c.less-least.result t.loop-mark.p c.walk.start t.loop-mark.mark t.loop-mark.edge = t.loop-mark.invariant.3 F (span i s e kids rest) sc.stands (c.walk.invariant.1 F (span i s e kids rest) sc.stands (begun (goal.at.Left-walk c).After-struct_known-2-1 F i s e kids rest sc)) in
+            rw (t.p-is, t.start-is, t.mark-is, t.edge-is)
+            (L.left_early b sc.stands sc.counted lim _ v t.loop-mark.invariant.2 t.loop-mark.invariant.0 (sym t.is_mark.ensures ∙ t.loop-mark-test.false) (omega (arith, t.start_at-left.ensures, t.if-left-least.true)))
+        | then-walk-test+else-loop-mark-test+else-left-least+then-settled t ↦
+            let w : Walked c.args.at (span i s e kids rest) c.less-least.result t.loop-mark.p c.walk.start t.loop-mark.mark t.loop-mark.edge = t.loop-mark.invariant.3 F (span i s e kids rest) sc.stands (c.walk.invariant.1 F (span i s e kids rest) sc.stands (begun (goal.at.Left-walk c).After-struct_known-2-1 F i s e kids rest sc)) in
+            let v = W.step_span sc.stands w t.loop-mark.invariant.0 (sym t.is_mark.ensures ∙ t.loop-mark-test.false) (omega (arith, t.start_at-left.ensures, t.if-left-least.false)) in
+            let u : Walked c.args.at (span i s e kids rest) c.less-least.result (t.loop-mark.p - t.span_at-p.result) t.start_at-left.result t.loop-mark.mark t.loop-mark.edge =
+            rw (t.span_at-p.ensures, t.start_at-left.ensures) v in
+            rw (t.p-is, t.start-is, t.mark-is, t.edge-is)
+            (L.left_settled b sc.stands sc.counted lim _ u t.loop-mark.invariant.2 (sym t.settled.ensures ∙ t.if-settled.true))
+      ]
 
   left_some : leaves c.requires.F c.requires.i c.requires.s c.requires.e c.requires.kids c.requires.rest
   left_some = left c.requires.F c.requires.i c.requires.s c.requires.e c.requires.kids c.requires.rest c.requires.scans
@@ -101,7 +100,7 @@ pub loop-mark-init : goal.loop-mark-init
 loop-mark-init c = (c.walk-test.true, omega arith, c.walk.invariant.0, λ F its st v. v)
 
 pub is_mark-requires : goal.is_mark-requires
-is_mark-requires c =  record { p_nonzero = omega (arith, c.loop-mark.invariant.0); record_width_in_bounds = (bounds (goal.at.is_mark-requires c).At-loop-mark).2 }
+is_mark-requires c = record { p_nonzero = omega (arith, c.loop-mark.invariant.0); record_width_in_bounds = (bounds (goal.at.is_mark-requires c).At-loop-mark).2 }
 
 pub overflow_sub-p : goal.overflow_sub-p
 overflow_sub-p c = omega (arith, c.loop-mark.invariant.0)
@@ -160,7 +159,7 @@ overflow_cast-walk-2 c = omega (arith, (left_some (goal.at.overflow_cast-walk-2 
 
 pub choose-requires : goal.choose-requires
 choose-requires c =
-     record { rising = counted_rising c.requires.scans.counted c.requires.scans.small (left_some (goal.at.choose-requires c).Left-walk).reached; rising_2 = counted_rising c.requires.scans.counted c.requires.scans.small (left_some (goal.at.choose-requires c).Left-walk).low }
+    record { rising = counted_rising c.requires.scans.counted c.requires.scans.small (left_some (goal.at.choose-requires c).Left-walk).reached; rising_2 = counted_rising c.requires.scans.counted c.requires.scans.small (left_some (goal.at.choose-requires c).Left-walk).low }
 
 pub returns : goal.returns
 returns c = λ F i s e kids rest sc. rw c.choose.ensures (left (goal.at.returns c).Left-walk F i s e kids rest sc).found

@@ -1,19 +1,6 @@
 -- `scan::find_buffer_size` meets its contract: each turn of the walk keeps what a walk up to there is, and each way out of it leaves the answer. Assumes nothing.
-use mathlib.Core.Bool.{false}
-use mathlib.Core.Logic.{⊎_elim}
-use mathlib.Core.Path.{◌≡◌, sym, ap, ◌∙◌}
-use Prim.Native.Nat.{ℕ, ◌+◌, ◌-◌, ◌*◌, ◌/◌, ◌≤◌, ◌<◌}
-use native.Mathlib.Omega.{arith}
-use borrow.Author.Rules.{rules}
-use lib.ListN.{length}
-use Rattle.words.specs.Words.{id_of, last_of}
-use Rattle.tree.specs.Items.{Items, span, same}
+use Prim.Native.Nat.{◌≤◌, ◌<◌}
 use Rattle.cursor.specs.Own.{own_of}
-use Rattle.scan.specs.Walked.{Walked, Scans}
-use Rattle.scan.proofs.Leaves.{Left}
-use Rattle.scan.proofs.Leaves as L
-use Rattle.scan.proofs.Counts.{counted_rising}
-use Rattle.scan.proofs.Walks as W
 use Rattle.scan.proofs.Walks.{Goes}
 use Rattle.scan.proofs.find_buffer_size.Given as goal
 

@@ -1,7 +1,6 @@
 -- `scan::is_mark` meets its contract: the record before a place has the own id. Assumes nothing.
 use mathlib.Core.Path.{ap, ◌∙◌}
 use Prim.Native.Nat.{ℕ}
-use borrow.Author.Rules.{rules}
 use Rattle.tree.specs.Items.{same}
 use Rattle.cursor.specs.Own.{own_of}
 use Rattle.scan.proofs.is_mark.Goals as goal

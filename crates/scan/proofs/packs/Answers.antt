@@ -1,5 +1,4 @@
 -- `scan::packs` meets its contract: the limits on a run. Assumes nothing.
-use borrow.Author.Rules.{rules}
 use Rattle.scan.proofs.Tests as T
 use Rattle.scan.proofs.packs.Goals as goal
 

@@ -1,5 +1,4 @@
 -- `scan::resume` meets its contract: the walk goes on where the memo is, or begins. Assumes nothing.
-use borrow.Author.Rules.{rules}
 use Rattle.scan.proofs.Tests as T
 use Rattle.scan.proofs.resume.Goals as goal
 

@@ -1,5 +1,4 @@
 -- `scan::settled` meets its contract: too many ordinary words, and no run noted packs. Assumes nothing.
-use borrow.Author.Rules.{rules}
 use Rattle.scan.proofs.Tests as T
 use Rattle.scan.proofs.settled.Goals as goal
 

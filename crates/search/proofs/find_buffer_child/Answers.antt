@@ -1,12 +1,11 @@
 -- `search::find_buffer_child` meets its contract. The invariant: the choice along the way that is left, with what was found so far as its default, is
 -- the choice along the whole way. Assumes nothing.
 use Rattle.words.specs.declared.Found.{Found}
-use Rattle.search.proofs.Way.{Ahead, ahead_first, ahead_next, way_next, way_stop, choose_none, choose_first, choose_later, choose_miss, nearer, readable}
+use Rattle.search.proofs.Way.{ahead_first, ahead_next, way_next, way_stop, choose_none, choose_first, choose_later, choose_miss, nearer, readable}
 use Rattle.search.specs.Way.{Linked}
 use Rattle.search.specs.Search.{way, way_to, choose, matching, child}
 use Rattle.words.specs.Answer.{place_found}
 use mathlib.Core.Option.{none}
-use mathlib.Core.Logic.{⊎_elim}
 use mir.Facts.{to_z-of_z}
 use mir.Val.{to_z, of_z}
 use mir.Syntax.{w8}
@@ -14,7 +13,6 @@ use lib.Signed.{lt_z}
 use lib.IntN.{pos}
 use lib.ListN.{get_or, length}
 use native.Mathlib.Omega.{arith}
-use borrow.Author.Rules.{rules}
 use Prim.Native.Nat.{ℕ, ◌≤◌, ◌+◌, ◌-◌}
 use mathlib.Core.Bool.{Bool}
 use mathlib.Core.List.{List, ◌∷◌}
@@ -92,8 +90,9 @@ loop-index-preserved c =
     let rest = way (w₁ (goal.at.loop-index-preserved c).In-loop-index) (f₁ (goal.at.loop-index-preserved c).In-loop-index - 1) n c.args.to in
     let next = ahead_next (w₁ (goal.at.loop-index-preserved c).In-loop-index) _ _ (linked_at (goal.at.loop-index-preserved c).In-loop-index) (a₁ (goal.at.loop-index-preserved c).In-loop-index) (f₁ (goal.at.loop-index-preserved c).In-loop-index) n c.loop-index-test.true c.loop-index.invariant.1 c.wide-index.ensures.same in
     elim c.if-matches.branch [
-    then-matches+else-direction-gt0 u ↦ (f₁ (goal.at.loop-index-preserved c).In-loop-index - 1, next, step_at (goal.at.loop-index-preserved c).In-loop-index n c.wide-index.ensures.same ∙ choose_later (test₁ (goal.at.loop-index-preserved c).In-loop-index) (forward₁ (goal.at.loop-index-preserved c).In-loop-index) _ (a₁ (goal.at.loop-index-preserved c).In-loop-index) rest (sym c.matches.ensures ∙ u.if-matches.true) u.if-direction-gt0.false ∙ ap (λ (o : Found). choose (test₁ (goal.at.loop-index-preserved c).In-loop-index) (forward₁ (goal.at.loop-index-preserved c).In-loop-index) (place_found o) rest) (sym u.found-is))
-    | else-matches v ↦ (f₁ (goal.at.loop-index-preserved c).In-loop-index - 1, next, step_at (goal.at.loop-index-preserved c).In-loop-index n c.wide-index.ensures.same ∙ choose_miss (test₁ (goal.at.loop-index-preserved c).In-loop-index) (forward₁ (goal.at.loop-index-preserved c).In-loop-index) _ (a₁ (goal.at.loop-index-preserved c).In-loop-index) rest (sym c.matches.ensures ∙ v.if-matches.false) ∙ ap (λ (o : Found). choose (test₁ (goal.at.loop-index-preserved c).In-loop-index) (forward₁ (goal.at.loop-index-preserved c).In-loop-index) (place_found o) rest) (sym v.found-is)) ]
+      | then-matches+else-direction-gt0 u ↦ (f₁ (goal.at.loop-index-preserved c).In-loop-index - 1, next, step_at (goal.at.loop-index-preserved c).In-loop-index n c.wide-index.ensures.same ∙ choose_later (test₁ (goal.at.loop-index-preserved c).In-loop-index) (forward₁ (goal.at.loop-index-preserved c).In-loop-index) _ (a₁ (goal.at.loop-index-preserved c).In-loop-index) rest (sym c.matches.ensures ∙ u.if-matches.true) u.if-direction-gt0.false ∙ ap (λ (o : Found). choose (test₁ (goal.at.loop-index-preserved c).In-loop-index) (forward₁ (goal.at.loop-index-preserved c).In-loop-index) (place_found o) rest) (sym u.found-is))
+      | else-matches v ↦ (f₁ (goal.at.loop-index-preserved c).In-loop-index - 1, next, step_at (goal.at.loop-index-preserved c).In-loop-index n c.wide-index.ensures.same ∙ choose_miss (test₁ (goal.at.loop-index-preserved c).In-loop-index) (forward₁ (goal.at.loop-index-preserved c).In-loop-index) _ (a₁ (goal.at.loop-index-preserved c).In-loop-index) rest (sym c.matches.ensures ∙ v.if-matches.false) ∙ ap (λ (o : Found). choose (test₁ (goal.at.loop-index-preserved c).In-loop-index) (forward₁ (goal.at.loop-index-preserved c).In-loop-index) (place_found o) rest) (sym v.found-is))
+    ]
 
 pub returns : goal.returns
 returns c =

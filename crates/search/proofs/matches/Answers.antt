@@ -5,7 +5,6 @@ use lib.IntN.{ℤ}
 use Rattle.search.specs.Side.{on_side}
 use Prim.Native.Nat.{ℕ, ◌+◌}
 use mathlib.Core.Path.{◌≡◌, ◌∙◌}
-use borrow.Author.Rules.{rules}
 use Rattle.search.proofs.matches.Goals as goal
 
 ap₃ : (f : ℤ → ℕ → ℕ → Bool) {z z' : ℤ} {x x' y y' : ℕ} → z ≡ z' → x ≡ x' → y ≡ y' → f z x y ≡ f z' x' y'

@@ -1,5 +1,4 @@
 -- `search::search` meets its contract: each return is one case of the definition. Assumes nothing.
-use borrow.Author.Rules.{rules}
 use Rattle.words.specs.declared.Found.{Found}
 use Rattle.search.proofs.Cases.{linked, by_check, reversed, past, uneven_start, uneven_stop, never_met, too_far, searched}
 use Rattle.search.specs.Way.{Linked}
@@ -16,7 +15,6 @@ use Prim.Native.Nat.{ℕ}
 use lib.ListN.{length}
 use lib.IntN.{ℤ}
 use mir.Facts.{to_z-of_z}
-use borrow.Author.Tests.{not-true, not-false}
 use Rattle.search.proofs.search.Goals.{After-find_buffer_child-found, Else-not-way_meets, Else-to-ne0, In_default}
 use Rattle.search.proofs.search.Goals as goal
 

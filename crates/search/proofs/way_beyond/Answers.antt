@@ -1,6 +1,6 @@
 -- `search::way_beyond` meets its contract. The invariant: the first hit on the way that is left is the first on the whole way. Assumes nothing.
 use mathlib.Core.List.{◌∷◌}
-use Rattle.search.proofs.Way.{Ahead, ahead_first, ahead_next, way_next, way_stop, nearer, readable}
+use Rattle.search.proofs.Way.{ahead_first, ahead_next, way_next, way_stop, nearer, readable}
 use Rattle.search.specs.Search.{way, way_to, too_far, beyond}
 use Rattle.words.proofs.Firsts.{in_none, in_hit, in_miss, in_all_miss}
 use Rattle.words.specs.First.{first_in}
@@ -11,7 +11,6 @@ use mathlib.Core.Path.{◌≡◌, refl, sym, ap, ◌∙◌}
 use mathlib.Core.Bool.{true, false}
 use borrow.Author.Tests.{lt-ltb, le-ltb}
 use native.Mathlib.Omega.{arith}
-use borrow.Author.Rules.{rules}
 use Rattle.search.proofs.way_beyond.Goals.{In-loop-at}
 use Rattle.search.proofs.way_beyond.Goals as goal
 

@@ -1,17 +1,10 @@
 -- `search::way_beyond` meets its contract. The invariant: the first hit on the way that is left is the first on the whole way. Assumes nothing.
-use mathlib.Core.List.{◌∷◌}
-use Rattle.search.proofs.Way.{Ahead, ahead_first, ahead_next, way_next, way_stop, nearer, readable}
-use Rattle.search.specs.Search.{way, way_to, too_far, beyond}
-use Rattle.words.proofs.Firsts.{in_none, in_hit, in_miss, in_all_miss}
+use Rattle.search.proofs.Way.{Ahead}
+use Rattle.search.specs.Search.{way, too_far, beyond}
 use Rattle.words.specs.First.{first_in}
-use lib.ListN.{length, get_or}
-use Prim.Native.Nat.{ℕ, ◌+◌, ◌-◌, ◌≤◌}
-use mathlib.Core.List.{List}
-use mathlib.Core.Path.{◌≡◌, refl, sym, ap, ◌∙◌}
-use mathlib.Core.Bool.{true, false}
-use borrow.Author.Tests.{lt-ltb, le-ltb}
-use native.Mathlib.Omega.{arith}
-use borrow.Author.Rules.{rules}
+use lib.ListN.{length}
+use Prim.Native.Nat.{ℕ, ◌-◌}
+use mathlib.Core.Path.{◌≡◌}
 use Rattle.search.proofs.way_beyond.Given as goal
 
 abbrev pub invariant-loop-at : goal.invariant-loop-at

@@ -1,13 +1,11 @@
 -- `search::way_meets` meets its contract. The invariant: the way that is left meets the second bound where the whole way does. Assumes nothing.
-use Rattle.search.proofs.Way.{Ahead, ahead_first, ahead_next, meets_next, meets_stop, nearer, readable}
+use Rattle.search.proofs.Way.{ahead_first, ahead_next, meets_next, meets_stop, nearer, readable}
 use Rattle.search.specs.Way.{Linked}
-use Rattle.search.specs.Search.{meets}
 use lib.ListN.{length}
 use native.Mathlib.Omega.{arith}
-use borrow.Author.Rules.{rules}
 use Prim.Native.Nat.{ℕ, ◌≤◌, ◌+◌, ◌-◌}
 use mathlib.Core.List.{List}
-use mathlib.Core.Path.{◌≡◌, sym, ◌∙◌, refl}
+use mathlib.Core.Path.{sym, ◌∙◌, refl}
 use Rattle.search.proofs.way_meets.Goals.{In-loop-at}
 use Rattle.search.proofs.way_meets.Goals as goal
 
@@ -45,12 +43,11 @@ loop-at-smaller c =
     nearer (w₁ (goal.at.loop-at-smaller c).In-loop-at) _ _ (linked_at (goal.at.loop-at-smaller c).In-loop-at) (a₁ (goal.at.loop-at-smaller c).In-loop-at) (f₁ (goal.at.loop-at-smaller c).In-loop-at) c.wide-at.result c.loop-at-test.true c.loop-at.invariant.1 c.wide-at.ensures.same
 
 pub loop-at-preserved : goal.loop-at-preserved
-loop-at-preserved c =
-    (
-      f₁ (goal.at.loop-at-preserved c).In-loop-at - 1,
-      ahead_next (w₁ (goal.at.loop-at-preserved c).In-loop-at) _ _ (linked_at (goal.at.loop-at-preserved c).In-loop-at) (a₁ (goal.at.loop-at-preserved c).In-loop-at) (f₁ (goal.at.loop-at-preserved c).In-loop-at) c.wide-at.result c.loop-at-test.true c.loop-at.invariant.1 c.wide-at.ensures.same,
-      c.loop-at.invariant.2 ∙ meets_next (w₁ (goal.at.loop-at-preserved c).In-loop-at) _ _ (linked_at (goal.at.loop-at-preserved c).In-loop-at) (a₁ (goal.at.loop-at-preserved c).In-loop-at) (f₁ (goal.at.loop-at-preserved c).In-loop-at) c.wide-at.result c.loop-at-test.true c.loop-at.invariant.1 c.wide-at.ensures.same,
-    )
+loop-at-preserved c = (
+  f₁ (goal.at.loop-at-preserved c).In-loop-at - 1,
+  ahead_next (w₁ (goal.at.loop-at-preserved c).In-loop-at) _ _ (linked_at (goal.at.loop-at-preserved c).In-loop-at) (a₁ (goal.at.loop-at-preserved c).In-loop-at) (f₁ (goal.at.loop-at-preserved c).In-loop-at) c.wide-at.result c.loop-at-test.true c.loop-at.invariant.1 c.wide-at.ensures.same,
+  c.loop-at.invariant.2 ∙ meets_next (w₁ (goal.at.loop-at-preserved c).In-loop-at) _ _ (linked_at (goal.at.loop-at-preserved c).In-loop-at) (a₁ (goal.at.loop-at-preserved c).In-loop-at) (f₁ (goal.at.loop-at-preserved c).In-loop-at) c.wide-at.result c.loop-at-test.true c.loop-at.invariant.1 c.wide-at.ensures.same,
+)
 
 pub returns : goal.returns
 returns c =

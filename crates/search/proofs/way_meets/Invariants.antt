@@ -1,13 +1,9 @@
 -- `search::way_meets` meets its contract. The invariant: the way that is left meets the second bound where the whole way does. Assumes nothing.
-use Rattle.search.proofs.Way.{Ahead, ahead_first, ahead_next, meets_next, meets_stop, nearer, readable}
-use Rattle.search.specs.Way.{Linked}
+use Rattle.search.proofs.Way.{Ahead}
 use Rattle.search.specs.Search.{meets}
 use lib.ListN.{length}
-use native.Mathlib.Omega.{arith}
-use borrow.Author.Rules.{rules}
-use Prim.Native.Nat.{ℕ, ◌≤◌, ◌+◌, ◌-◌}
-use mathlib.Core.List.{List}
-use mathlib.Core.Path.{◌≡◌, sym, ◌∙◌, refl}
+use Prim.Native.Nat.{ℕ, ◌-◌}
+use mathlib.Core.Path.{◌≡◌}
 use Rattle.search.proofs.way_meets.Given as goal
 
 abbrev pub invariant-loop-at : goal.invariant-loop-at

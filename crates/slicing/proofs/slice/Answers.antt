@@ -12,7 +12,7 @@ use Rattle.part.proofs.Faults.{refused_place, accepted_counts}
 use Rattle.part.proofs.GreatestEnd.{greatest_above}
 use Rattle.part.proofs.Rebased.{rebased_at, rebased_length}
 use Rattle.words.specs.Answer.{place_found}
-use Rattle.words.specs.Words.{start_of, end_of, run}
+use Rattle.words.specs.Words.{start_of, run}
 use Rattle.words.specs.Outcome.{accepted, refused}
 use lib.Dec.{ltb}
 use lib.ListN.{length, get_or}
@@ -21,7 +21,6 @@ use mathlib.Core.List.{List, [], ◌∷◌}
 use mathlib.Core.Option.{none, some}
 use mathlib.Core.Path.{◌≡◌, sym, ap, ◌∙◌}
 use native.Mathlib.Omega.{arith}
-use borrow.Author.Rules.{rules}
 use Rattle.slicing.proofs.slice.Goals.{After-greatest_of, Else-from-to, Else-to-ne0, In-At, In-Refused-within, In_default, In_default-starts_below, In_default-within}
 use Rattle.slicing.proofs.slice.Goals as goal
 

@@ -1,13 +1,11 @@
 -- `slicing::starts_below` meets its contract. The invariant: the first such record from record i on is the first of all. Assumes nothing.
-use borrow.Author.Rules.{rules}
-use mathlib.Core.Bool.{Bool, cond}
+use mathlib.Core.Bool.{cond}
 use mathlib.Core.Path.{◌≡◌, sym, ap, ◌∙◌}
 use mathlib.Core.Option.{some}
 use mathlib.Core.List.{List}
 use native.Mathlib.Omega.{arith}
 use borrow.Author.Tests.{le-ltb, lt-ltb}
-use Prim.Native.Nat.{ℕ, ◌≤◌, ◌<◌, ◌+◌, ◌-◌, ◌*◌, ◌/◌}
-use lib.Dec.{ltb}
+use Prim.Native.Nat.{ℕ, ◌+◌, ◌-◌, ◌/◌}
 use lib.ListN.{length}
 use Rattle.words.specs.Words.{start_of}
 use Rattle.words.specs.First.{first_from}

@@ -3,7 +3,6 @@ use Rattle.store.proofs.Cell.{liked_same, liked_other}
 use borrow.Author.Tests.{eq-eqb}
 use native.Mathlib.Omega.{arith}
 use mathlib.Core.Path.{sym, ◌∙◌}
-use borrow.Author.Rules.{rules}
 use Rattle.store.proofs.like.Goals as goal
 
 pub returns-then-node-eq0 : goal.returns-then-node-eq0

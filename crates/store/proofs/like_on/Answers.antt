@@ -1,7 +1,6 @@
 -- `store::like_on` meets its contract. Assumes nothing.
 use borrow.Author.Tests.{eq-eqb, ne_eqb}
 use mathlib.Core.Path.{sym, ◌∙◌}
-use borrow.Author.Rules.{rules}
 use Rattle.store.proofs.like_on.Goals as goal
 
 pub returns-then-b-eq0 : goal.returns-then-b-eq0

@@ -1,7 +1,6 @@
 -- `store::link` meets its contract. Assumes nothing.
 use borrow.Author.Tests.{eq-eqb, ne_eqb}
 use mathlib.Core.Path.{sym}
-use borrow.Author.Rules.{rules}
 use Rattle.store.proofs.link.Goals as goal
 
 pub returns-then-node-eq0 : goal.returns-then-node-eq0

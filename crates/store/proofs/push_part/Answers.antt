@@ -1,6 +1,5 @@
 -- `store::push_part` meets its contract: a part's node at the top of the store. Assumes nothing.
 use Rattle.store.proofs.Frame.{pushed_part}
-use borrow.Author.Rules.{rules}
 use Rattle.store.proofs.push_part.Goals as goal
 
 pub returns : goal.returns

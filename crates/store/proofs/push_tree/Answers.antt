@@ -1,6 +1,5 @@
 -- `store::push_tree` meets its contract: a tree's node at the top of the store. Assumes nothing.
 use Rattle.store.proofs.Frame.{pushed_tree}
-use borrow.Author.Rules.{rules}
 use Rattle.store.proofs.push_tree.Goals as goal
 
 pub returns : goal.returns

@@ -3,7 +3,6 @@ use native.Mathlib.Nat.{add-zero}
 use Rattle.store.proofs.Puts.{put_ten}
 use native.Mathlib.Omega.{arith}
 use lib.ListN.{length-set}
-use borrow.Author.Rules.{rules}
 use Rattle.store.proofs.put_node.Goals as goal
 
 pub bounds-work-at-2 : goal.bounds-work-at-2

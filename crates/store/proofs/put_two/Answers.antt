@@ -2,7 +2,6 @@
 use Rattle.store.proofs.Puts.{put_two}
 use native.Mathlib.Omega.{arith}
 use lib.ListN.{length-set}
-use borrow.Author.Rules.{rules}
 use Rattle.store.proofs.put_two.Goals as goal
 
 pub bounds-work-at-2 : goal.bounds-work-at-2

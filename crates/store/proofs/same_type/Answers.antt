@@ -1,7 +1,6 @@
 -- `store::same_type` meets its contract: a node's type compared. Assumes nothing.
 use native.Mathlib.Nat.{add-zero}
 use Rattle.store.proofs.Cell.{typed_kind, typed_id}
-use borrow.Author.Rules.{rules}
 use Rattle.store.proofs.same_type.Goals as goal
 
 pub returns-then-work-n : goal.returns-then-work-n

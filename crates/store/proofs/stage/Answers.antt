@@ -2,7 +2,6 @@
 use Rattle.store.proofs.Frame.{staged_more}
 use Prim.Native.Nat.{◌-◌}
 use mathlib.Core.Path.{refl}
-use borrow.Author.Rules.{rules}
 use Rattle.store.proofs.stage.Goals as goal
 
 pub returns : goal.returns

@@ -2,7 +2,6 @@
 use borrow.Author.Tests.{eq-eqb, ne_eqb}
 use native.Mathlib.Omega.{arith}
 use mathlib.Core.Path.{sym}
-use borrow.Author.Rules.{rules}
 use Rattle.store.proofs.tell.Goals as goal
 
 pub returns-then-node-eq0 : goal.returns-then-node-eq0

@@ -5,7 +5,6 @@ use Rattle.store.proofs.Flow.{Later, end}
 use Rattle.words.specs.Words.{put}
 use Rattle.store.specs.Store.{told, tree_cell, Writable, Wrote, PartReady, PartWritten}
 use Rattle.tree.specs.Trees.{Trees, nodes}
-use borrow.Author.Rules.{rules}
 use native.Mathlib.Omega.{arith}
 use lib.ListN.{length, get_or}
 use Prim.Native.Nat.{ℕ, ◌+◌, ◌-◌, ◌*◌, ◌≤◌}

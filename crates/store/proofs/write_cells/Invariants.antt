@@ -1,17 +1,10 @@
 -- `store::write_cells` meets its contract: the cells and words done stand at the front of the outputs. Assumes nothing.
-use native.Mathlib.Nat.{add-zero}
-use Rattle.store.proofs.Writer.{Going, going_same, going_start, total, out_same, words_same, going_end, going_pop, node_inside, cells_left, cell_room, part_ready, TreeReady, tree_ready, going_tree, going_part}
-use Rattle.store.proofs.Flow.{Later, end}
-use Rattle.words.specs.Words.{put}
-use Rattle.store.specs.Store.{told, tree_cell, Writable, Wrote, PartReady, PartWritten}
-use Rattle.tree.specs.Trees.{Trees, nodes}
-use borrow.Author.Rules.{rules}
-use native.Mathlib.Omega.{arith}
-use lib.ListN.{length, get_or}
-use Prim.Native.Nat.{ℕ, ◌+◌, ◌-◌, ◌*◌, ◌≤◌}
-use mathlib.Core.List.{List, [], ◌∷◌}
-use mathlib.Core.Path.{◌≡◌, sym, ◌∙◌}
-use Rattle.tree.specs.Cells.{cell_width}
+use Rattle.store.proofs.Writer.{Going}
+use Rattle.store.proofs.Flow.{Later}
+use Rattle.store.specs.Store.{told, Writable}
+use Rattle.tree.specs.Trees.{Trees}
+use lib.ListN.{length}
+use Prim.Native.Nat.{◌+◌, ◌-◌, ◌*◌}
 use Rattle.store.proofs.write_cells.Given as goal
 
 abbrev pub invariant-loop-at : goal.invariant-loop-at

@@ -4,11 +4,10 @@ use native.Mathlib.Omega.{arith}
 use lib.ListN.{length}
 use Prim.Native.Nat.{◌+◌}
 use mathlib.Core.Path.{refl}
-use borrow.Author.Rules.{rules}
 use Rattle.store.proofs.write_top.Goals as goal
 
 pub push_tree-root-requires : goal.push_tree-root-requires
-push_tree-root-requires c =  record { node_width_bound = omega (arith, c.requires.free, c.requires.inside); readable = top_kids c.args.work.now c.args.top c.args.kids (length c.args.out.now) (length c.args.words.now) c.requires; readable_2 = λ z. absurd (z refl) }
+push_tree-root-requires c = record { node_width_bound = omega (arith, c.requires.free, c.requires.inside); readable = top_kids c.args.work.now c.args.top c.args.kids (length c.args.out.now) (length c.args.words.now) c.requires; readable_2 = λ z. absurd (z refl) }
 
 pub write_cells-requires : goal.write_cells-requires
 write_cells-requires c =

@@ -1,6 +1,5 @@
 -- `store::write_tree` meets its contract: a tree's cell. Assumes nothing.
 use Rattle.store.proofs.Cell.{tree_written}
-use borrow.Author.Rules.{rules}
 use Rattle.store.proofs.write_tree.Goals as goal
 
 pub returns : goal.returns

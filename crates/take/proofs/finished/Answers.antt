@@ -1,6 +1,5 @@
 -- `take::finished` meets its contract, each case. Assumes nothing.
 use Rattle.take.proofs.Loop.{ended_top, ended_inside}
-use borrow.Author.Rules.{rules}
 use Rattle.take.proofs.finished.Goals as goal
 
 pub returns-then-s-eq0 : goal.returns-then-s-eq0

@@ -1,10 +1,7 @@
 -- `take::take_nodes` meets its contract: each step goes on to the same end. Assumes nothing.
-use Prim.Native.Nat.{◌+◌, ◌*◌}
 use mathlib.Core.Path.{sym, ◌∙◌}
 use native.Mathlib.Omega.{arith}
-use borrow.Author.Tests.{not-true, not-false}
-use borrow.Author.Rules.{rules}
-use Rattle.take.proofs.Loop.{Kept, kept_start, kept_asks, kept_step, kept_end}
+use Rattle.take.proofs.Loop.{kept_start, kept_asks, kept_step, kept_end}
 use Rattle.take.proofs.take_nodes.Goals as goal
 
 pub loop-work-init : goal.loop-work-init

@@ -1,10 +1,6 @@
 -- `take::take_nodes` meets its contract: each step goes on to the same end. Assumes nothing.
 use Prim.Native.Nat.{◌+◌, ◌*◌}
-use mathlib.Core.Path.{sym, ◌∙◌}
-use native.Mathlib.Omega.{arith}
-use borrow.Author.Tests.{not-true, not-false}
-use borrow.Author.Rules.{rules}
-use Rattle.take.proofs.Loop.{Kept, kept_start, kept_asks, kept_step, kept_end}
+use Rattle.take.proofs.Loop.{Kept}
 use Rattle.take.proofs.take_nodes.Given as goal
 
 abbrev pub invariant-loop-work : goal.invariant-loop-work

@@ -3,7 +3,6 @@ use Rattle.tree.proofs.Stores.{put_seven}
 use native.Mathlib.Nat.{add-zero}
 use native.Mathlib.Omega.{arith}
 use lib.ListN.{length-set}
-use borrow.Author.Rules.{rules}
 use Rattle.tree.proofs.put_cell.Goals as goal
 
 pub bounds-out-at-2 : goal.bounds-out-at-2

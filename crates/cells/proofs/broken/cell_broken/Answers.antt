@@ -1,11 +1,6 @@
 -- `cells::broken::cell_broken` meets its contract: each return is one case of the definition. Assumes nothing.
-use borrow.Author.Rules.{rules}
 use mathlib.Core.Bool.{false}
-use mathlib.Core.List.{List}
 use mathlib.Core.Path.{◌≡◌, sym, ◌∙◌}
-use Prim.Native.Nat.{ℕ, ◌+◌}
-use native.Mathlib.Omega.{arith}
-use lib.ListN.{length}
 use Rattle.cells.specs.Read.{cell_of}
 use Rattle.cells.specs.Steps.{own_test, count_test, range_test}
 use Rattle.cells.proofs.Testing.{cell_1, cell_2, cell_3, cell_4, cell_5}
@@ -26,27 +21,42 @@ module _ (e : Else-range_broken) where
 
 pub returns-then-own_broken : goal.returns-then-own_broken
 returns-then-own_broken c =
-    let a = c.args in record { value = cell_1 a.g.types a.words.now a.g.n a.g.last a.i a.w a.work.now a.d.after a.d.within a.d.base (cell_of a.k)
-          (sym c.own_broken.ensures ∙ c.if-own_broken.true); front = front_same a.at a.work.now }
+    let a = c.args in record {
+      value = cell_1 a.g.types a.words.now a.g.n a.g.last a.i a.w a.work.now a.d.after a.d.within a.d.base (cell_of a.k)
+          (sym c.own_broken.ensures ∙ c.if-own_broken.true);
+      front = front_same a.at a.work.now;
+    }
 
 pub returns-then-count_broken : goal.returns-then-count_broken
 returns-then-count_broken c =
-    let a = c.args in record { value = cell_2 a.g.types a.words.now a.g.n a.g.last a.i a.w a.work.now a.d.after a.d.within a.d.base (cell_of a.k)
-          (sym c.own_broken.ensures ∙ c.if-own_broken.false) (sym c.count_broken.ensures ∙ c.if-count_broken.true); front = front_same a.at a.work.now }
+    let a = c.args in record {
+      value = cell_2 a.g.types a.words.now a.g.n a.g.last a.i a.w a.work.now a.d.after a.d.within a.d.base (cell_of a.k)
+          (sym c.own_broken.ensures ∙ c.if-own_broken.false) (sym c.count_broken.ensures ∙ c.if-count_broken.true);
+      front = front_same a.at a.work.now;
+    }
 
 pub returns-then-range_broken : goal.returns-then-range_broken
 returns-then-range_broken c =
-    let a = c.args in record { value = cell_3 a.g.types a.words.now a.g.n a.g.last a.i a.w a.work.now a.d.after a.d.within a.d.base (cell_of a.k)
+    let a = c.args in record {
+      value = cell_3 a.g.types a.words.now a.g.n a.g.last a.i a.w a.work.now a.d.after a.d.within a.d.base (cell_of a.k)
           (sym c.own_broken.ensures ∙ c.if-own_broken.false) (sym c.count_broken.ensures ∙ c.if-count_broken.false)
-          (sym c.range_broken.ensures ∙ c.if-range_broken.true); front = front_same a.at a.work.now }
+          (sym c.range_broken.ensures ∙ c.if-range_broken.true);
+      front = front_same a.at a.work.now;
+    }
 
 pub returns-then-part_broken : goal.returns-then-part_broken
 returns-then-part_broken c =
-    let a = c.args in record { value = cell_4 a.g.types a.words.now a.g.n a.g.last a.i a.w a.work.now a.d.after a.d.within a.d.base (cell_of a.k)
-          (own_clear (goal.at.returns-then-part_broken c).Else-range_broken) (count_clear (goal.at.returns-then-part_broken c).Else-range_broken) (range_clear (goal.at.returns-then-part_broken c).Else-range_broken) (sym c.part_broken.ensures.value ∙ c.if-part_broken.true); front = c.part_broken.ensures.front }
+    let a = c.args in record {
+      value = cell_4 a.g.types a.words.now a.g.n a.g.last a.i a.w a.work.now a.d.after a.d.within a.d.base (cell_of a.k)
+          (own_clear (goal.at.returns-then-part_broken c).Else-range_broken) (count_clear (goal.at.returns-then-part_broken c).Else-range_broken) (range_clear (goal.at.returns-then-part_broken c).Else-range_broken) (sym c.part_broken.ensures.value ∙ c.if-part_broken.true);
+      front = c.part_broken.ensures.front;
+    }
 
 pub returns : goal.returns
 returns c =
-    let a = c.args in record { value = c.stray_broken.ensures
+    let a = c.args in record {
+      value = c.stray_broken.ensures
           ∙ cell_5 a.g.types a.words.now a.g.n a.g.last a.i a.w a.work.now a.d.after a.d.within a.d.base (cell_of a.k)
-          (own_clear (goal.at.returns c).Else-range_broken) (count_clear (goal.at.returns c).Else-range_broken) (range_clear (goal.at.returns c).Else-range_broken) (sym c.part_broken.ensures.value ∙ c.if-part_broken.false); front = c.part_broken.ensures.front }
+          (own_clear (goal.at.returns c).Else-range_broken) (count_clear (goal.at.returns c).Else-range_broken) (range_clear (goal.at.returns c).Else-range_broken) (sym c.part_broken.ensures.value ∙ c.if-part_broken.false);
+      front = c.part_broken.ensures.front;
+    }

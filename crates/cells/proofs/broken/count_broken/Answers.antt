@@ -1,6 +1,4 @@
 -- `cells::broken::count_broken` meets its contract: each return is one case of the definition. Assumes nothing.
-use borrow.Author.Rules.{rules}
-use Prim.Native.Nat.{◌-◌}
 use Rattle.cells.specs.Read.{cell_of}
 use Rattle.cells.proofs.Testing.{count_part, count_tree}
 use Rattle.cells.proofs.broken.count_broken.Goals as goal

@@ -1,5 +1,4 @@
 -- `cells::broken::first_child` meets its contract: each return is one side of the test. Assumes nothing.
-use Prim.Native.Nat.{◌-◌}
 use Rattle.cells.specs.Read.{cell_of}
 use Rattle.cells.proofs.Testing.{child_none, child_some}
 use Rattle.cells.proofs.broken.first_child.Goals as goal

@@ -1,5 +1,4 @@
 -- `cells::broken::id_broken` meets its contract: each return is one side of the test. Assumes nothing.
-use Prim.Native.Nat.{◌-◌}
 use Rattle.cells.specs.Read.{cell_of}
 use Rattle.cells.proofs.Testing.{id_one, id_other}
 use Rattle.cells.proofs.broken.id_broken.Goals as goal

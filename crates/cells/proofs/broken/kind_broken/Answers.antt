@@ -1,5 +1,4 @@
 -- `cells::broken::kind_broken` meets its contract: each return is one case of the definition. Assumes nothing.
-use Prim.Native.Nat.{◌-◌}
 use Rattle.cells.specs.Read.{cell_of}
 use Rattle.cells.proofs.Testing.{kind_one, kind_three, kind_other}
 use Rattle.cells.proofs.broken.kind_broken.Goals as goal

@@ -1,7 +1,5 @@
 -- `cells::broken::link_broken` meets its contract: each return is one case of the definition. Assumes nothing.
-use borrow.Author.Rules.{rules}
 use mathlib.Core.Path.{refl}
-use Prim.Native.Nat.{◌-◌}
 use Rattle.cells.proofs.Testing.{link_none, link_back, link_far}
 use Rattle.cells.proofs.broken.link_broken.Goals as goal
 

@@ -1,7 +1,6 @@
 -- `cells::broken::own_broken` meets its contract: each return is the first test that answers. Assumes nothing.
-use borrow.Author.Rules.{rules}
 use mathlib.Core.Path.{sym, ap, ◌∙◌}
-use Prim.Native.Nat.{◌+◌, ◌-◌}
+use Prim.Native.Nat.{◌+◌}
 use Rattle.cells.specs.Read.{cell_of}
 use Rattle.rules.specs.Lowest.{link_broken}
 use Rattle.cells.proofs.Testing.{own_1, own_2, own_3, own_4, own_5}

@@ -1,7 +1,6 @@
 -- `cells::broken::range_broken` meets its contract: each return is one case of the definition. Assumes nothing.
-use borrow.Author.Rules.{rules}
 use mathlib.Core.Path.{◌≡◌, ap, ◌∙◌}
-use Prim.Native.Nat.{◌+◌, ◌-◌}
+use Prim.Native.Nat.{◌+◌}
 use native.Mathlib.Omega.{arith}
 use lib.Dec.{ltb}
 use Rattle.cells.proofs.Testing.{range_order, range_inside, range_top, range_end}

@@ -1,5 +1,4 @@
 -- `cells::broken::top_broken` meets its contract: each return is one case of the definition. Assumes nothing.
-use Prim.Native.Nat.{◌-◌}
 use Rattle.cells.specs.Read.{cell_of}
 use Rattle.cells.proofs.Testing.{top_other, top_kind, top_position, top_next}
 use Rattle.cells.proofs.broken.top_broken.Goals as goal

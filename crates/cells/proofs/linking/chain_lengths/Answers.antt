@@ -1,11 +1,10 @@
 -- `cells::linking::chain_lengths` meets its contract. The invariant: the lengths from cell c on stand in their places. Assumes nothing.
-use borrow.Author.Rules.{rules}
-use mathlib.Core.Path.{◌≡◌, refl, ◌∙◌}
-use Prim.Native.Nat.{◌+◌, ◌-◌, ◌*◌, ◌≤◌}
+use mathlib.Core.Path.{refl, ◌∙◌}
+use Prim.Native.Nat.{◌+◌, ◌-◌, ◌*◌}
 use native.Mathlib.Omega.{arith}
-use lib.ListN.{length, get_or, length-set}
+use lib.ListN.{get_or, length-set}
 use Rattle.tree.specs.Cells.{cell_width, next_place}
-use Rattle.cells.proofs.Reading.{Tail, tail_set, fits_at}
+use Rattle.cells.proofs.Reading.{tail_set, fits_at}
 use Rattle.cells.proofs.linking.chain_lengths.Goals as goal
 
 pub overflow_add-work : goal.overflow_add-work

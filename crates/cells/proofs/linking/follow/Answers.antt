@@ -1,5 +1,4 @@
 -- `cells::linking::follow` meets its contract: each return is one case of the definition. Assumes nothing.
-use borrow.Author.Rules.{rules}
 use mathlib.Core.Path.{sym, ap}
 use mathlib.Core.Bool.{cond}
 use Prim.Native.Nat.{◌-◌}

@@ -1,7 +1,6 @@
 -- `cells::linking::inner_width` meets its contract: each return is one side of the test. Assumes nothing.
 use mathlib.Core.Path.{sym, ap}
 use mathlib.Core.Bool.{cond}
-use Prim.Native.Nat.{◌-◌}
 use borrow.Author.Tests.{eq-eqb, ne_eqb}
 use Rattle.cells.proofs.linking.inner_width.Goals as goal
 

@@ -1,7 +1,5 @@
 -- `cells::linking::lower` meets its contract: each return is one case of the definition. Assumes nothing.
-use borrow.Author.Rules.{rules}
 use mathlib.Core.Path.{◌∙◌}
-use Prim.Native.Nat.{◌-◌}
 use native.Mathlib.Omega.{arith}
 use Rattle.cells.proofs.Links.{low_none, low_under, low_here, low_keep}
 use Rattle.cells.proofs.linking.lower.Goals as goal

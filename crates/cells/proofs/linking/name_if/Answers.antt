@@ -1,6 +1,4 @@
 -- `cells::linking::name_if` meets its contract: nothing is put on, or four words and the new limit. Assumes nothing.
-use borrow.Author.Rules.{rules}
-use Prim.Native.Nat.{◌-◌}
 use native.Mathlib.Omega.{arith}
 use lib.ListN.{length-set}
 use Rattle.cells.proofs.Links.{put_none, put_some}

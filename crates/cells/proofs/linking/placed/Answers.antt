@@ -1,7 +1,5 @@
 -- `cells::linking::placed` meets its contract: each return is one case of the definition. Assumes nothing.
-use borrow.Author.Rules.{rules}
 use mathlib.Core.Path.{ap, ◌∙◌}
-use Prim.Native.Nat.{◌-◌}
 use lib.Dec.{eqb}
 use Rattle.cells.proofs.Testing.{place_limit, place_none, place_named}
 use Rattle.cells.proofs.linking.placed.Goals as goal

@@ -1,11 +1,9 @@
 -- `cells::linking::push_names` meets its contract: the two links are put on one after the other. Assumes nothing.
-use borrow.Author.Rules.{rules}
 use mathlib.Core.Path.{subst}
 use mathlib.Core.Bool.{cond}
-use Prim.Native.Nat.{◌+◌, ◌-◌}
+use Prim.Native.Nat.{◌+◌}
 use lib.Dec.{eqb}
 use Rattle.cells.specs.Open.{Put}
-use Rattle.rules.specs.Cell.{first_child}
 use Rattle.cells.proofs.linking.push_names.Goals as goal
 
 pub returns : goal.returns

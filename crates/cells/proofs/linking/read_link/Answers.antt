@@ -1,5 +1,4 @@
 -- `cells::linking::read_link` meets its contract: the words are those of the link. Assumes nothing.
-use borrow.Author.Rules.{rules}
 use mathlib.Core.Path.{refl}
 use Prim.Native.Nat.{◌+◌, ◌-◌, ◌*◌}
 use native.Mathlib.Omega.{arith}

@@ -1,5 +1,4 @@
 -- `cells::parts::earliest_start` meets its contract. Assumes nothing.
-use borrow.Author.Rules.{rules}
 use borrow.Author.Tests.{le-ltb, lt-ltb}
 use Rattle.cells.proofs.parts.earliest_start.Goals as goal
 

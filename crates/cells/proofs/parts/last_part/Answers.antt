@@ -1,9 +1,7 @@
 -- `cells::parts::last_part` meets its contract. The invariant: no part stands from that cell on. Assumes nothing.
-use borrow.Author.Rules.{rules}
-use Prim.Native.Nat.{◌-◌, ◌≤◌}
 use native.Mathlib.Nat.{add-zero}
 use native.Mathlib.Omega.{arith}
-use Rattle.cells.proofs.Reading.{Bare, bare_start, bare_back, last_none, last_found}
+use Rattle.cells.proofs.Reading.{bare_start, bare_back, last_none, last_found}
 use Rattle.cells.proofs.parts.last_part.Goals as goal
 
 pub loop-last-init : goal.loop-last-init

@@ -1,9 +1,6 @@
 -- `cells::parts::last_part` meets its contract. The invariant: no part stands from that cell on. Assumes nothing.
-use borrow.Author.Rules.{rules}
-use Prim.Native.Nat.{◌-◌, ◌≤◌}
-use native.Mathlib.Nat.{add-zero}
-use native.Mathlib.Omega.{arith}
-use Rattle.cells.proofs.Reading.{Bare, bare_start, bare_back, last_none, last_found}
+use Prim.Native.Nat.{◌≤◌}
+use Rattle.cells.proofs.Reading.{Bare}
 use Rattle.cells.proofs.parts.last_part.Given as goal
 
 abbrev pub invariant-loop-last : goal.invariant-loop-last

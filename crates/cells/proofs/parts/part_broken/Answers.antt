@@ -1,9 +1,8 @@
 -- `cells::parts::part_broken` meets its contract: each return is one case of the definition. Assumes nothing.
-use borrow.Author.Rules.{rules}
 use mathlib.Core.Path.{◌≡◌, sym, ap, ap₂, ◌∙◌}
 use mathlib.Core.Bool.{not}
 use mathlib.Core.List.{List}
-use Prim.Native.Nat.{ℕ, ◌+◌, ◌-◌, ◌≤◌}
+use Prim.Native.Nat.{ℕ, ◌+◌, ◌-◌}
 use native.Mathlib.Omega.{arith}
 use lib.ListN.{length, take, drop}
 use Rattle.words.proofs.Runs.{run_length}
@@ -48,11 +47,14 @@ returns-then-words-end c =
 
 pub part_kept-requires : goal.part_kept-requires
 part_kept-requires c =
-     record { room = record { for_indices = omega (arith, long_at (goal.at.part_kept-requires c).Else-words-end, c.if-words-end.false, c.requires.room.for_indices); for_ends = omega (arith, long_at (goal.at.part_kept-requires c).Else-words-end, c.if-words-end.false, c.requires.room.for_ends) }; types_bound = c.requires.types_bound }
+    record { room = record { for_indices = omega (arith, long_at (goal.at.part_kept-requires c).Else-words-end, c.if-words-end.false, c.requires.room.for_indices); for_ends = omega (arith, long_at (goal.at.part_kept-requires c).Else-words-end, c.if-words-end.false, c.requires.room.for_ends) }; types_bound = c.requires.types_bound }
 
 pub returns : goal.returns
 returns c =
     let a = c.args in
     let cut : end₁ (goal.at.returns c).Else-words-end - first₁ (goal.at.returns c).Else-words-end ≡ a.k.count = omega (arith, count_is (goal.at.returns c).Else-words-end) in
-    let part : take (end₁ (goal.at.returns c).Else-words-end - first₁ (goal.at.returns c).Else-words-end) (drop (first₁ (goal.at.returns c).Else-words-end) (ws₁ (goal.at.returns c).Else-words-end)) ≡ take a.k.count (drop a.k.first (ws₁ (goal.at.returns c).Else-words-end)) = ap₂ (λ m d. take m (drop d (ws₁ (goal.at.returns c).Else-words-end))) cut (first_is (goal.at.returns c).Else-words-end) in record { value = ap not (c.part_kept.ensures.value ∙ ap (part_kept a.types a.k.len) part)
-          ∙ part_rules a.types (ws₁ (goal.at.returns c).Else-words-end) a.w (cell_of a.k) c.if-k-ne2.false (sym (first_is (goal.at.returns c).Else-words-end) ∙ c.if-first-w.false) (omega (arith, first_is (goal.at.returns c).Else-words-end, count_is (goal.at.returns c).Else-words-end, c.if-words-end.false)); front = c.part_kept.ensures.front }
+    let part : take (end₁ (goal.at.returns c).Else-words-end - first₁ (goal.at.returns c).Else-words-end) (drop (first₁ (goal.at.returns c).Else-words-end) (ws₁ (goal.at.returns c).Else-words-end)) ≡ take a.k.count (drop a.k.first (ws₁ (goal.at.returns c).Else-words-end)) = ap₂ (λ m d. take m (drop d (ws₁ (goal.at.returns c).Else-words-end))) cut (first_is (goal.at.returns c).Else-words-end) in record {
+      value = ap not (c.part_kept.ensures.value ∙ ap (part_kept a.types a.k.len) part)
+          ∙ part_rules a.types (ws₁ (goal.at.returns c).Else-words-end) a.w (cell_of a.k) c.if-k-ne2.false (sym (first_is (goal.at.returns c).Else-words-end) ∙ c.if-first-w.false) (omega (arith, first_is (goal.at.returns c).Else-words-end, count_is (goal.at.returns c).Else-words-end, c.if-words-end.false));
+      front = c.part_kept.ensures.front;
+    }

@@ -1,8 +1,7 @@
 -- `cells::parts::part_kept` meets its contract: each turn is one of the loop over lists. Assumes nothing.
-use borrow.Author.Rules.{rules}
 use mathlib.Core.Path.{◌≡◌, ap, sym, ◌∙◌}
 use mathlib.Core.List.{List}
-use Prim.Native.Nat.{ℕ, ◌+◌, ◌-◌, ◌*◌, ◌/◌, ◌%◌, ◌≤◌, ◌<◌}
+use Prim.Native.Nat.{ℕ, ◌+◌, ◌-◌, ◌/◌, ◌%◌, ◌≤◌, ◌<◌}
 use native.Mathlib.Omega.{arith}
 use lib.Dec.{leb}
 use lib.ListN.{length}
@@ -11,7 +10,7 @@ use Rattle.part.specs.Open.{Tested}
 use Rattle.cells.specs.Parts.{past_parent}
 use Rattle.cells.proofs.Rings.{front_same}
 use Rattle.cells.proofs.Scanning.{kept_ragged}
-use Rattle.cells.proofs.PartLoop.{Going, going_start, going_end, as_itself, stack_itself, faulty, few, past, early, fits, going_next, read_again}
+use Rattle.cells.proofs.PartLoop.{going_start, going_end, as_itself, stack_itself, faulty, few, past, early, going_next, read_again}
 use Rattle.cells.proofs.parts.part_kept.Goals.{After-check_record-next, After-past_parent, Else-start-earliest_start}
 use Rattle.cells.proofs.parts.part_kept.Goals as goal
 
@@ -68,7 +67,7 @@ written_at c =
 
 pub returns-then-part-ne0 : goal.returns-then-part-ne0
 returns-then-part-ne0 c =
-     record { value = kept_ragged c.args.types c.args.len c.args.part.now c.requires.types_bound c.if-part-ne0.true; front = front_same c.args.at c.args.work.now }
+    record { value = kept_ragged c.args.types c.args.len c.args.part.now c.requires.types_bound c.if-part-ne0.true; front = front_same c.args.at c.args.work.now }
 
 pub loop-i-init : goal.loop-i-init
 loop-i-init c =
@@ -76,11 +75,11 @@ loop-i-init c =
 
 pub check_record-next-requires : goal.check_record-next-requires
 check_record-next-requires c =
-     record { record_width_len = c.if-part-ne0.false; record_width_in_bounds = omega (arith, c.loop-i-test.true); stack = stack_itself c.args.part.now c.loop-i.i c.loop-i.s.top c.loop-i.ends c.if-part-ne0.false c.loop-i.invariant.stack }
+    record { record_width_len = c.if-part-ne0.false; record_width_in_bounds = omega (arith, c.loop-i-test.true); stack = stack_itself c.args.part.now c.loop-i.i c.loop-i.s.top c.loop-i.ends c.if-part-ne0.false c.loop-i.invariant.stack }
 
 pub returns-then-next-ne0 : goal.returns-then-next-ne0
 returns-then-next-ne0 c =
-     record { value = faulty c.args.types c.args.len (ws₁ (goal.at.returns-then-next-ne0 c).After-check_record-next) c.args.at _ _ _ _ c.loop-i.s _ _ c.loop-i.invariant (here (goal.at.returns-then-next-ne0 c).After-check_record-next) _ c.check_record-next.result (tested (goal.at.returns-then-next-ne0 c).After-check_record-next) c.if-next-ne0.true; front = c.loop-i.invariant.front }
+    record { value = faulty c.args.types c.args.len (ws₁ (goal.at.returns-then-next-ne0 c).After-check_record-next) c.args.at _ _ _ _ c.loop-i.s _ _ c.loop-i.invariant (here (goal.at.returns-then-next-ne0 c).After-check_record-next) _ c.check_record-next.result (tested (goal.at.returns-then-next-ne0 c).After-check_record-next) c.if-next-ne0.true; front = c.loop-i.invariant.front }
 
 pub overflow_sub-t : goal.overflow_sub-t
 overflow_sub-t c =
@@ -92,7 +91,7 @@ past_parent-requires c =
 
 pub returns-then-past_parent : goal.returns-then-past_parent
 returns-then-past_parent c =
-     record { value = past c.args.types c.args.len (ws₁ (goal.at.returns-then-past_parent c).After-check_record-next) c.args.at _ _ _ _ c.loop-i.s _ _ c.loop-i.invariant (here (goal.at.returns-then-past_parent c).After-check_record-next) _ c.check_record-next.result (tested (goal.at.returns-then-past_parent c).After-check_record-next) (clear (goal.at.returns-then-past_parent c).After-past_parent) (sym (past_at (goal.at.returns-then-past_parent c).After-past_parent) ∙ c.if-past_parent.true); front = c.loop-i.invariant.front }
+    record { value = past c.args.types c.args.len (ws₁ (goal.at.returns-then-past_parent c).After-check_record-next) c.args.at _ _ _ _ c.loop-i.s _ _ c.loop-i.invariant (here (goal.at.returns-then-past_parent c).After-check_record-next) _ c.check_record-next.result (tested (goal.at.returns-then-past_parent c).After-check_record-next) (clear (goal.at.returns-then-past_parent c).After-past_parent) (sym (past_at (goal.at.returns-then-past_parent c).After-past_parent) ∙ c.if-past_parent.true); front = c.loop-i.invariant.front }
 
 pub earliest_start-requires : goal.earliest_start-requires
 earliest_start-requires c =
@@ -100,7 +99,7 @@ earliest_start-requires c =
 
 pub returns-then-start-earliest_start : goal.returns-then-start-earliest_start
 returns-then-start-earliest_start c =
-     record { value = early c.args.types c.args.len (ws₁ (goal.at.returns-then-start-earliest_start c).After-check_record-next) c.args.at _ _ _ _ c.loop-i.s _ _ c.loop-i.invariant (here (goal.at.returns-then-start-earliest_start c).After-check_record-next) _ c.check_record-next.result (tested (goal.at.returns-then-start-earliest_start c).After-check_record-next) (clear (goal.at.returns-then-start-earliest_start c).After-past_parent) (omega (arith, start_at (goal.at.returns-then-start-earliest_start c).After-past_parent, c.earliest_start.ensures, c.if-start-earliest_start.true)); front = c.loop-i.invariant.front }
+    record { value = early c.args.types c.args.len (ws₁ (goal.at.returns-then-start-earliest_start c).After-check_record-next) c.args.at _ _ _ _ c.loop-i.s _ _ c.loop-i.invariant (here (goal.at.returns-then-start-earliest_start c).After-check_record-next) _ c.check_record-next.result (tested (goal.at.returns-then-start-earliest_start c).After-check_record-next) (clear (goal.at.returns-then-start-earliest_start c).After-past_parent) (omega (arith, start_at (goal.at.returns-then-start-earliest_start c).After-past_parent, c.earliest_start.ensures, c.if-start-earliest_start.true)); front = c.loop-i.invariant.front }
 
 pub bounds-work-at : goal.bounds-work-at
 bounds-work-at c = omega (arith, written_at (goal.at.bounds-work-at c).Else-start-earliest_start, work_same (goal.at.bounds-work-at c).After-check_record-next)
@@ -113,5 +112,8 @@ loop-i-preserved c =
 
 pub returns : goal.returns
 returns c =
-     record { value = ap (λ (g : ℕ). leb g c.args.len) c.word.ensures
-          ∙ going_end c.args.types c.args.len c.args.part.now c.args.at _ _ _ _ c.loop-i.s _ _ c.loop-i.invariant c.loop-i-test.false c.if-part-ne0.false; front = c.loop-i.invariant.front }
+    record {
+      value = ap (λ (g : ℕ). leb g c.args.len) c.word.ensures
+          ∙ going_end c.args.types c.args.len c.args.part.now c.args.at _ _ _ _ c.loop-i.s _ _ c.loop-i.invariant c.loop-i-test.false c.if-part-ne0.false;
+      front = c.loop-i.invariant.front;
+    }

@@ -1,5 +1,4 @@
 -- `cells::parts::past_parent` meets its contract: each return is one branch of the definition. Assumes nothing.
-use borrow.Author.Rules.{rules}
 use borrow.Author.Tests.{eq-eqb, ne_eqb}
 use Rattle.cells.specs.Parts.{past_parent}
 use Rattle.cells.proofs.parts.past_parent.Goals as goal

@@ -1,7 +1,6 @@
 -- `cells::parts::words_end` meets its contract: each return is one side of the test. Assumes nothing.
-use borrow.Author.Rules.{rules}
 use mathlib.Core.Path.{◌≡◌, ◌∙◌}
-use Prim.Native.Nat.{◌+◌, ◌-◌}
+use Prim.Native.Nat.{◌+◌}
 use native.Mathlib.Omega.{arith}
 use Rattle.cells.specs.Read.{cell_of}
 use Rattle.cells.proofs.Testing.{end_at_part, end_at_tree}

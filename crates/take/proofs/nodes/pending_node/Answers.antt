@@ -3,7 +3,6 @@ use mathlib.Core.Path.{ap}
 use native.Mathlib.Omega.{arith}
 use Rattle.reader.specs.declared.Record.{Record}
 use Rattle.take.proofs.Starting.{pending_is}
-use borrow.Author.Rules.{rules}
 use Rattle.take.proofs.nodes.pending_node.Goals as goal
 
 pub overflow_sub-node : goal.overflow_sub-node

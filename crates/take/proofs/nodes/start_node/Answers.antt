@@ -4,7 +4,6 @@ use mathlib.Core.List.{List}
 use mathlib.Core.Option.{Option}
 use Rattle.cursor.specs.Own.{own_of}
 use Rattle.take.proofs.Starting.{take_asks, part_asks, pending_asks, started_part, started_tree}
-use borrow.Author.Rules.{rules}
 use Rattle.take.proofs.nodes.start_node.Goals.{After-take_run}
 use Rattle.take.proofs.nodes.start_node.Goals as goal
 

@@ -1,7 +1,6 @@
 -- `take::stepping::close_tree` meets its contract. Assumes nothing.
 use native.Mathlib.Omega.{arith}
 use Rattle.take.proofs.Closing.{close_within, close_asks, closed}
-use borrow.Author.Rules.{rules}
 use Rattle.take.proofs.stepping.close_tree.Goals as goal
 
 pub overflow_sub-depth : goal.overflow_sub-depth

@@ -1,7 +1,6 @@
 -- `take::stepping::open_tree` meets its contract. Assumes nothing.
 use native.Mathlib.Omega.{arith}
 use Rattle.take.proofs.Opening.{open_within, opened}
-use borrow.Author.Rules.{rules}
 use Rattle.take.proofs.stepping.open_tree.Goals as goal
 
 pub back-last-requires : goal.back-last-requires

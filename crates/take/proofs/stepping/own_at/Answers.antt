@@ -1,7 +1,6 @@
 -- `take::stepping::own_at` meets its contract, each case. Assumes nothing.
 use mathlib.Core.Path.{◌∙◌}
 use Rattle.take.proofs.Loop.{own_none, own_some}
-use borrow.Author.Rules.{rules}
 use Rattle.take.proofs.stepping.own_at.Goals as goal
 
 pub returns-then-depth-eq0 : goal.returns-then-depth-eq0

@@ -1,7 +1,6 @@
 -- `take::stepping::pass_record` meets its contract. Assumes nothing.
 use native.Mathlib.Omega.{arith}
 use Rattle.take.proofs.Passing.{pass_asks, pass_within, passed_on}
-use borrow.Author.Rules.{rules}
 use Rattle.take.proofs.stepping.pass_record.Goals as goal
 
 pub back-last-requires : goal.back-last-requires

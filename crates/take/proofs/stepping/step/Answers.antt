@@ -6,7 +6,6 @@ use Rattle.cursor.specs.Own.{own_of}
 use Rattle.words.specs.Words.{id_of}
 use Rattle.take.specs.Loop.{own_at}
 use Rattle.take.proofs.Loop.{close_asks, closed_step, read_within, pass_asks, passed_step, take_asks, took_step}
-use borrow.Author.Rules.{rules}
 use Rattle.take.proofs.stepping.step.Goals.{After-is_own}
 use Rattle.take.proofs.stepping.step.Goals as goal
 

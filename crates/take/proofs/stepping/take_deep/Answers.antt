@@ -6,7 +6,6 @@ use mathlib.Core.Option.{Option}
 use Rattle.cursor.specs.Own.{own_of}
 use Rattle.tree.specs.Items.{repeats}
 use Rattle.take.proofs.Deep.{deep_some, flat_asks, finish_asks, deepened}
-use borrow.Author.Rules.{rules}
 use Rattle.take.proofs.stepping.take_deep.Goals.{After-in_repeat-own}
 use Rattle.take.proofs.stepping.take_deep.Goals as goal
 

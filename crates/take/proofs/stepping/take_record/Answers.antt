@@ -6,7 +6,6 @@ use Rattle.cursor.specs.Own.{own_of}
 use Rattle.take.specs.Starting.{Starts, Started}
 use Rattle.take.specs.declared.StartedNode.{StartedNode}
 use Rattle.take.proofs.Loop.{part_fits, took_part, deep_asks, took_deep, open_asks, took_open}
-use borrow.Author.Rules.{rules}
 use Rattle.take.proofs.stepping.take_record.Goals.{After-start_node}
 use Rattle.take.proofs.stepping.take_record.Goals as goal
 
@@ -33,7 +32,6 @@ module _ (e : After-start_node) where
 pub with_part-requires : goal.with_part-requires
 with_part-requires c =
     let fits = part_fits c.args.first_repeat c.args.bound (own (goal.at.with_part-requires c).After-start_node) (records (goal.at.with_part-requires c).After-start_node) (work (goal.at.with_part-requires c).After-start_node) c.args.s (work₁ (goal.at.with_part-requires c).After-start_node) (became (goal.at.with_part-requires c).After-start_node) (started (goal.at.with_part-requires c).After-start_node) in let whole = fits c.requires c.in-Built.node c.in-Built.is in record { node_width_bound = whole.0; p_bound = whole.1 }
-
 
 pub take_deep-requires : goal.take_deep-requires
 take_deep-requires c =

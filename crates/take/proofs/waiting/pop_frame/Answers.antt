@@ -1,6 +1,5 @@
 -- `take::waiting::pop_frame` meets its contract: its fields are the words. Assumes nothing.
 use Rattle.take.proofs.Frames.{frame_is}
-use borrow.Author.Rules.{rules}
 use Rattle.take.proofs.waiting.pop_frame.Goals as goal
 
 pub returns : goal.returns

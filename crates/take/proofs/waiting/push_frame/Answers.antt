@@ -2,7 +2,6 @@
 use Rattle.take.proofs.Frames.{put_eleven}
 use native.Mathlib.Omega.{arith}
 use lib.ListN.{length-set}
-use borrow.Author.Rules.{rules}
 use Rattle.take.proofs.waiting.push_frame.Goals as goal
 
 pub bounds-work-at-2 : goal.bounds-work-at-2
