@@ -1,4 +1,4 @@
-/* Hulwyth's exported calls. Link libgateway.a, which `rt lib` in crates/gateway writes to out/ there; of the C library it needs memset
+/* Hulwyth's exported calls. Link libgateway.a, which tools/archive writes to target/staticlib/; of the C library it needs memset
  * alone.
  *
  *   record lists   hulwyth_check        checks a record list

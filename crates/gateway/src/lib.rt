@@ -1,4 +1,4 @@
-// The exported functions, for C and Rust: the number is returned, and place and counts go to the front of `info`, as many as it
+// The functions that the crate gateway_c exports for C and Rust: the number is returned, and place and counts go to the front of `info`, as many as it
 // holds. Every call tells two counts, the part check three; one that a call does not have is 0.
 #![tactic(auto)]
 
@@ -46,8 +46,7 @@ fn tell(info: &mut [u32], numbers: &[usize])
 }
 
 // The call check of document 01; the count is that of the records.
-#[unsafe(no_mangle)]
-pub extern "C" fn hulwyth_check(
+pub fn hulwyth_check(
     types: u32,
     first_repeat: u32,
     bound: u32,
@@ -83,8 +82,7 @@ fn given_length(given: u32, length: u32) -> build::Given
 }
 
 // The call build of document 01; the counts are cells and words.
-#[unsafe(no_mangle)]
-pub extern "C" fn hulwyth_build(
+pub fn hulwyth_build(
     types: u32,
     first_repeat: u32,
     bound: u32,
@@ -126,8 +124,7 @@ pub extern "C" fn hulwyth_build(
 }
 
 // The call materialise of document 01; the counts are cells and words, of which there are none.
-#[unsafe(no_mangle)]
-pub extern "C" fn hulwyth_materialise(
+pub fn hulwyth_materialise(
     types: u32,
     cells: &[u32],
     words: &[u16],
@@ -158,8 +155,7 @@ fn flag(number: u32) -> bool
 }
 
 // The call balance of document 01, with whether place 0 of the set is none; the counts are cells and words.
-#[unsafe(no_mangle)]
-pub extern "C" fn hulwyth_balance(
+pub fn hulwyth_balance(
     types: u32,
     none_first: u32,
     cells: &[u32],
@@ -185,8 +181,7 @@ pub extern "C" fn hulwyth_balance(
 }
 
 // The call list of document 01, on a tree with packed parts; the count is that of the lines.
-#[unsafe(no_mangle)]
-pub extern "C" fn hulwyth_list(
+pub fn hulwyth_list(
     types: u32,
     first_repeat: u32,
     start: u32,
@@ -212,8 +207,7 @@ pub extern "C" fn hulwyth_list(
 }
 
 // The part check of document 01; the counts are records, greatest end and deepest nesting.
-#[unsafe(no_mangle)]
-pub extern "C" fn hulwyth_part_check(types: u32, words: &[u16], info: &mut [u32]) -> u32
+pub fn hulwyth_part_check(types: u32, words: &[u16], info: &mut [u32]) -> u32
     ensures { record { number = result; info = info.new; outputs = [] } ≡ told 3 (part_check words.now types) info.old }
 {
     let answer = part::part_check(words, types);
@@ -230,8 +224,7 @@ pub extern "C" fn hulwyth_part_check(types: u32, words: &[u16], info: &mut [u32]
 }
 
 // Slicing of document 01; the counts are words and length.
-#[unsafe(no_mangle)]
-pub extern "C" fn hulwyth_part_slice(
+pub fn hulwyth_part_slice(
     types: u32,
     from: usize,
     to: usize,
@@ -256,8 +249,7 @@ pub extern "C" fn hulwyth_part_slice(
 }
 
 // Searching of document 01; the counts are 1 and the match's word offset, or 0 and 0.
-#[unsafe(no_mangle)]
-pub extern "C" fn hulwyth_part_search(
+pub fn hulwyth_part_search(
     types: u32,
     from: usize,
     to: usize,
