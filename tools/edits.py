@@ -19,7 +19,7 @@ import sys
 
 # Names between letters keep their hyphens, as `end-of` had them; all else is one sign a token.
 TOKEN = re.compile(r"[^\W_][\w'′]*(?:[-·][^\W\d_][\w'′]*)*|_[\w'′]+|\S", re.UNICODE)
-# what COMMIT's new lines say in words that today's files don't have
+# words of COMMIT's lines that today's files don't have
 WORDS = {"getD": "get_or", "_+_": "◌+◌", "_-_": "◌-◌", "_≡_": "◌≡◌"}
 # edits that were written by hand: here the word of `Option` that a list's word of the same name stands beside
 BY_HAND = {"search/definition_far_up_to_the_match"}
@@ -58,6 +58,7 @@ def tokens(text):
 
 
 def key(token):
+    """What a token is compared by: the spelling of names has changed in hyphens and capitals."""
     return WORDS.get(token, token.replace("-", "_").replace("_", "").lower())
 
 
@@ -65,8 +66,9 @@ class Alignment:
     """Which tokens of one text stand for which of the other."""
 
     def __init__(self, old, new):
-        self.old, self.new, self.text = tokens(old), tokens(new), new
+        self.old, self.new = tokens(old), tokens(new)
         match = difflib.SequenceMatcher(None, [key(it[0]) for it in self.old], [key(it[0]) for it in self.new], autojunk=False)
+        # by a token's place in the old text: where its counterpart begins in the new one; by the place behind it: where that ends
         self.left, self.right = {}, {}
         for _, a, b, c, d in match.get_opcodes():
             for i in range(a, b):
@@ -75,7 +77,7 @@ class Alignment:
                 self.right[i + 1] = c + i - a + 1 if same else d
 
     def span(self, start, end):
-        """The places, in tokens of the new text, for the characters from start to end of the old one; how much of a token is cut off."""
+        """The tokens of the old text, from one to before another, in which the characters from start to end stand."""
         inside = [i for i, it in enumerate(self.old) if it[1] < end and start < it[2]]
         return inside[0], inside[-1] + 1
 
@@ -148,7 +150,7 @@ def exchange(was, today, old, new):
 
 
 def pairs(text):
-    """An edit's lines, and which of them are pairs."""
+    """The pairs of an edit: the file, the numbers of both lines, and both texts."""
     lines, file, old = text.split("\n"), None, None
     for n, line in enumerate(lines):
         if line.startswith("file: "):
@@ -160,6 +162,7 @@ def pairs(text):
 
 
 def turned(commit, crate, name):
+    """COMMIT's edit in today's text, or None; and what is to be said of it. Later pairs apply to what the earlier ones made."""
     path = "crates/%s/must-fail/%s" % (crate, name)
     text = git("show", commit + ":" + path)
     lines, was, today, said = text.split("\n"), {}, {}, "as it was"
@@ -180,6 +183,7 @@ def turned(commit, crate, name):
 
 
 def stands(crate, name):
+    """None where each old text of the edit stands once in today's files, else what is wrong."""
     texts = {}
     for file, _, _, old, new in pairs(read("crates/%s/must-fail/%s" % (crate, name))):
         if file not in texts:
