@@ -203,6 +203,7 @@ pub fn check_cut(words: &[u16], types: u32, from: u16) -> Checked
 }
 
 // The part check: 1, 16, then 17 to 20 record by record.
+#[tactic(auto, unfolding(crate::specs::Part::part_check))]
 pub fn part_check(words: &[u16], types: u32) -> Checked
     ensures { checked_outcome result ≡ part_check words.now types }
 {

@@ -306,6 +306,7 @@ fn check_records(types: u32, start: u32, records: &[u32], work: &mut [u32]) -> C
 }
 
 // The call check. What the work slice held decides nothing.
+#[tactic(auto, unfolding(crate::specs::Check::check))]
 pub fn check(
     types: u32,
     first_repeat: u32,
