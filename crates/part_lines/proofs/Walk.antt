@@ -90,6 +90,10 @@ module _ {F p d from at : ℕ} {ws : List ℕ} (out₀ held₀ : List ℕ) (lent
     pub out_length : length out ≡ length out₀
     out_length = fronted_length (take from out₀ ++ all) out₀ out rest to w.written (omega (arith, fills, lent.lines_fit))
 
+    -- the depth below the end indices that are held fits 32 bits
+    pub walk_shallow : d + top ≤ 4294967295
+    walk_shallow = omega (arith, fills, w.deep, lent.shallow)
+
     -- no record is left
     pub walk_end : length ws < i * 4 + 4 → (to ≡ from + length (listed_part F p d ws)) × (out ≡ put out₀ from (listed_part F p d ws)) × (take at held ≡ take at held₀)
     walk_end l =

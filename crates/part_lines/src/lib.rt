@@ -73,6 +73,7 @@ fn open_ends(work: &[u32], at: usize, top: usize, off: usize) -> usize
 
 // Writes the lines of a part that starts at `start`, from `from` on, and answers where the next one goes. `depth` is that of its first
 // level. `work` is used from `at` on.
+#[tactic(auto, using(crate::proofs::Ends::still_few))]
 pub fn list_part(
     part: &[u16],
     first_repeat: u32,

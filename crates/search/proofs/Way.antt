@@ -1,6 +1,6 @@
 -- Laws of the way that following end indices takes: one step, its end, and what a loop on it keeps.
 -- Assumes nothing.
-use mathlib.Core.Path.{◌≡◌, refl, ap, ◌∙◌}
+use mathlib.Core.Path.{◌≡◌, refl, sym, ap, ◌∙◌}
 use mathlib.Core.List.{List, [], ◌∷◌}
 use mathlib.Core.Bool.{Bool, true, false}
 use Prim.Native.Nat.{ℕ, zero, suc, ◌+◌, ◌-◌, ◌%◌, ◌≤◌, ◌<◌}
@@ -83,3 +83,11 @@ module _ (test : ℕ → Bool) (forward : Bool) (d : Option ℕ) where
     pub choose_miss : test a ≡ false → choose test forward d (a ∷ l) ≡ choose test forward d l
     unfolding choose
     choose_miss h = rw h
+
+    -- what is found after the element, `e`, is the element itself where the search goes on past a match
+    pub choose_on : (e : Option ℕ) → (test a ≡ true → (forward ≡ false) × (e ≡ some a)) → (test a ≡ false → e ≡ d) → choose test forward d (a ∷ l) ≡ choose test forward e l
+    choose_on e hit miss = go (test a) refl
+      where
+        go : (t : Bool) → test a ≡ t → choose test forward d (a ∷ l) ≡ choose test forward e l
+        go true k = choose_later k (hit k).0 ∙ ap (λ (o : Option ℕ). choose test forward o l) (sym (hit k).1)
+        go false k = choose_miss k ∙ ap (λ (o : Option ℕ). choose test forward o l) (sym (miss k))

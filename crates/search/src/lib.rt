@@ -63,6 +63,7 @@ fn way_meets(words: &[u16], from: usize, to: usize) -> bool
 
 // The first record on the way whose end, with the base, is past 32 bits. An end has 16 bits, so a base that leaves
 // room for them needs no walk.
+#[tactic(auto, using(crate::proofs::Near::none_beyond))]
 fn way_beyond(words: &[u16], from: usize, to: usize, base: u32) -> Found
     requires { Linked words.now from to }
     ensures { place_found result ≡ beyond words.now from to base }
@@ -92,6 +93,7 @@ fn matches(words: &[u16], at: usize, position: u32, base: u32, side: i8) -> bool
 }
 
 // The first match on the way in a direction above 0, else the last.
+#[tactic(auto, using(crate::proofs::Forward::first_forward))]
 fn find_buffer_child(
     words: &[u16],
     from: usize,

@@ -3,3 +3,4 @@ pub mod Rebasing
 pub mod Cases
 pub mod NineteenExactly
 pub mod Passing
+pub mod Room

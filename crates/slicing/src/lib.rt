@@ -71,6 +71,7 @@ fn greatest_of(checked: Checked) -> u16
 }
 
 // A slice of a part: the part check, 21, 22, 23, 19 on the cut part, 13; then the rebased words.
+#[tactic(auto, using(crate::proofs::Room::lacks_room))]
 pub fn slice(
     words: &[u16],
     types: u32,

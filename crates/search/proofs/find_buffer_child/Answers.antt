@@ -1,20 +1,20 @@
 -- `search::find_buffer_child` meets its contract. The invariant: the choice along the way that is left, with what was found so far as its default, is
 -- the choice along the whole way. Assumes nothing.
-use Rattle.words.specs.declared.Found.{Found}
-use Rattle.search.proofs.Way.{ahead_first, ahead_next, way_next, way_stop, choose_none, choose_first, choose_later, choose_miss, nearer, readable}
+use Rattle.search.proofs.Way.{ahead_first, ahead_next, way_next, way_stop, choose_none, choose_on, nearer, readable}
 use Rattle.search.specs.Way.{Linked}
 use Rattle.search.specs.Search.{way, way_to, choose, matching, child}
 use Rattle.words.specs.Answer.{place_found}
-use mathlib.Core.Option.{none}
+use mathlib.Core.Option.{none, some}
 use mir.Facts.{to_z-of_z}
 use mir.Val.{to_z, of_z}
 use mir.Syntax.{w8}
 use lib.Signed.{lt_z}
+use Rattle.std.proofs.Common.{rules}
 use lib.IntN.{pos}
 use lib.ListN.{get_or, length}
 use native.Mathlib.Omega.{arith}
 use Prim.Native.Nat.{ℕ, ◌≤◌, ◌+◌, ◌-◌}
-use mathlib.Core.Bool.{Bool}
+use mathlib.Core.Bool.{Bool, true, false}
 use mathlib.Core.List.{List, ◌∷◌}
 use mathlib.Core.Path.{◌≡◌, sym, ◌∙◌, refl, ap}
 use Rattle.search.proofs.find_buffer_child.Goals.{then-matches+else-direction-gt0, else-matches, In-loop-index, Start}
@@ -67,10 +67,6 @@ loop-index-init c = (length c.args.words.now, ahead_first _ _ _ c.requires, refl
 pub matches-requires : goal.matches-requires
 matches-requires c = omega (arith, read_at (goal.at.matches-requires c).In-loop-index)
 
-pub returns-then-direction-gt0 : goal.returns-then-direction-gt0
-returns-then-direction-gt0 c =
-    sym (child_at (goal.at.returns-then-direction-gt0 c).Start ∙ step_at (goal.at.returns-then-direction-gt0 c).In-loop-index _ refl ∙ choose_first (test₁ (goal.at.returns-then-direction-gt0 c).In-loop-index) (forward₁ (goal.at.returns-then-direction-gt0 c).In-loop-index) _ (a₁ (goal.at.returns-then-direction-gt0 c).In-loop-index) _ (sym c.matches.ensures ∙ c.if-matches.true) c.if-direction-gt0.true)
-
 pub overflow_add-index : goal.overflow_add-index
 overflow_add-index c = omega (arith, read_at (goal.at.overflow_add-index c).In-loop-index)
 
@@ -86,13 +82,12 @@ loop-index-smaller c =
 
 pub loop-index-preserved : goal.loop-index-preserved
 loop-index-preserved c =
+    let i = (goal.at.loop-index-preserved c).In-loop-index in
     let n = c.wide-index.result in
-    let rest = way (w₁ (goal.at.loop-index-preserved c).In-loop-index) (f₁ (goal.at.loop-index-preserved c).In-loop-index - 1) n c.args.to in
-    let next = ahead_next (w₁ (goal.at.loop-index-preserved c).In-loop-index) _ _ (linked_at (goal.at.loop-index-preserved c).In-loop-index) (a₁ (goal.at.loop-index-preserved c).In-loop-index) (f₁ (goal.at.loop-index-preserved c).In-loop-index) n c.loop-index-test.true c.loop-index.invariant.1 c.wide-index.ensures.same in
-    elim c.if-matches.branch [
-      | then-matches+else-direction-gt0 u ↦ (f₁ (goal.at.loop-index-preserved c).In-loop-index - 1, next, step_at (goal.at.loop-index-preserved c).In-loop-index n c.wide-index.ensures.same ∙ choose_later (test₁ (goal.at.loop-index-preserved c).In-loop-index) (forward₁ (goal.at.loop-index-preserved c).In-loop-index) _ (a₁ (goal.at.loop-index-preserved c).In-loop-index) rest (sym c.matches.ensures ∙ u.if-matches.true) u.if-direction-gt0.false ∙ ap (λ (o : Found). choose (test₁ (goal.at.loop-index-preserved c).In-loop-index) (forward₁ (goal.at.loop-index-preserved c).In-loop-index) (place_found o) rest) (sym u.found-is))
-      | else-matches v ↦ (f₁ (goal.at.loop-index-preserved c).In-loop-index - 1, next, step_at (goal.at.loop-index-preserved c).In-loop-index n c.wide-index.ensures.same ∙ choose_miss (test₁ (goal.at.loop-index-preserved c).In-loop-index) (forward₁ (goal.at.loop-index-preserved c).In-loop-index) _ (a₁ (goal.at.loop-index-preserved c).In-loop-index) rest (sym c.matches.ensures ∙ v.if-matches.false) ∙ ap (λ (o : Found). choose (test₁ (goal.at.loop-index-preserved c).In-loop-index) (forward₁ (goal.at.loop-index-preserved c).In-loop-index) (place_found o) rest) (sym v.found-is))
-    ]
+    let next = ahead_next (w₁ i) _ _ (linked_at i) (a₁ i) (f₁ i) n c.loop-index-test.true c.loop-index.invariant.1 c.wide-index.ensures.same in
+    let hit : c.matches.result ≡ true → (forward₁ i ≡ false) × (place_found c.if-matches.found ≡ some (a₁ i)) = λ e. search rules in
+    let miss : c.matches.result ≡ false → place_found c.if-matches.found ≡ place_found c.loop-index.found = λ e. search rules in
+    (f₁ i - 1, next, step_at i n c.wide-index.ensures.same ∙ choose_on (test₁ i) (forward₁ i) _ (a₁ i) (way (w₁ i) (f₁ i - 1) n c.args.to) (place_found c.if-matches.found) (λ e. hit (c.matches.ensures ∙ e)) (λ e. miss (c.matches.ensures ∙ e)))
 
 pub returns : goal.returns
 returns c =

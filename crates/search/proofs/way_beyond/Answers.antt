@@ -1,8 +1,8 @@
 -- `search::way_beyond` meets its contract. The invariant: the first hit on the way that is left is the first on the whole way. Assumes nothing.
 use mathlib.Core.List.{◌∷◌}
 use Rattle.search.proofs.Way.{ahead_first, ahead_next, way_next, way_stop, nearer, readable}
-use Rattle.search.specs.Search.{way, way_to, too_far, beyond}
-use Rattle.words.proofs.Firsts.{in_none, in_hit, in_miss, in_all_miss}
+use Rattle.search.specs.Search.{way, too_far, beyond}
+use Rattle.words.proofs.Firsts.{in_none, in_hit, in_miss}
 use Rattle.words.specs.First.{first_in}
 use lib.ListN.{length, get_or}
 use Prim.Native.Nat.{ℕ, ◌+◌, ◌-◌, ◌≤◌}
@@ -31,13 +31,6 @@ module _ (i : In-loop-at) where
   -- one record further
   step_at : (n : ℕ) → n ≡ get_or w₁ (a₁ + 3) 0 → way w₁ f₁ a₁ i.args.to ≡ a₁ ∷ way w₁ (f₁ - 1) n i.args.to
   step_at n e = way_next w₁ _ _ i.requires a₁ f₁ n i.loop-at-test.true i.loop-at.invariant.1 e
-
-pub returns-then-base-le4294901760 : goal.returns-then-base-le4294901760
-unfolding beyond
-returns-then-base-le4294901760 c =
-    let a = c.args in
-    let w = a.words.now in
-    sym (in_all_miss (too_far w a.base) (way_to w a.from a.to) (λ k. le-ltb 4294967295 (a.base + get_or w (k + 2) 0) (omega (arith, c.if-base-le4294901760.true, c.type_inv.words (k + 2)))))
 
 pub loop-at-init : goal.loop-at-init
 unfolding beyond

@@ -1,7 +1,7 @@
 -- `slicing::slice` meets its contract: each return is one case of the definition. Assumes nothing.
 use Rattle.words.proofs.Firsts.{some_from}
 use Rattle.words.proofs.Runs.{run_length, run_word}
-use Rattle.slicing.proofs.Cases.{by_check, reversed, past, uneven_start, uneven_stop, low, by_cut, no_room, accepts, accepts_none}
+use Rattle.slicing.proofs.Cases.{by_check, reversed, past, uneven_start, uneven_stop, low, by_cut, accepts, accepts_none}
 use Rattle.slicing.proofs.Cut.{rebasable, part_small}
 use Rattle.slicing.specs.Rebasing.{Rebasable, greatest_of}
 use Rattle.slicing.specs.Slice.{starts_below}
@@ -119,7 +119,7 @@ module _ (c : Else-from-to) where
   some_record = omega (arith, c.if-from-to.false, in_order (goal.at.Else-from-to c).Else-to-ne0, whole_from (goal.at.Else-from-to c).Else-to-ne0, whole_to (goal.at.Else-from-to c).Else-to-ne0)
 
   rebasable₇ : Rebasable (cut₂ (goal.at.Else-from-to c).Else-to-ne0) (from₂ (goal.at.Else-from-to c).Else-to-ne0) (base₂ (goal.at.Else-from-to c).Else-to-ne0) (length c.args.out.now)
-  rebasable₇ = rebasable_at (goal.at.Else-from-to c).In_default-starts_below (length c.args.out.now) c.if-out-to.false
+  rebasable₇ = rebasable_at (goal.at.Else-from-to c).In_default-starts_below (length c.args.out.now) (omega (arith, inside (goal.at.Else-from-to c).Else-to-ne0))
 
   starts₇ : base₂ (goal.at.Else-from-to c).Else-to-ne0 ≤ start_of (cut₂ (goal.at.Else-from-to c).Else-to-ne0) 0
   starts₇ = rebasable₇.starts 0 (omega (arith, long_at (goal.at.Else-from-to c).Else-to-ne0, some_record))
@@ -189,15 +189,10 @@ returns-in-Refused-within c =
     by_cut (w₁ (goal.at.returns-in-Refused-within c).In_default) (types₂ (goal.at.returns-in-Refused-within c).Else-to-ne0) (from₂ (goal.at.returns-in-Refused-within c).Else-to-ne0) (to₂ (goal.at.returns-in-Refused-within c).Else-to-ne0) (base₂ (goal.at.returns-in-Refused-within c).Else-to-ne0) c.args.out.now (counts₁ (goal.at.returns-in-Refused-within c).In_default) (ok_at (goal.at.returns-in-Refused-within c).In_default) (in_order (goal.at.returns-in-Refused-within c).Else-to-ne0) (inside (goal.at.returns-in-Refused-within c).Else-to-ne0) (whole_from (goal.at.returns-in-Refused-within c).Else-to-ne0) (whole_to (goal.at.returns-in-Refused-within c).Else-to-ne0)
     (high_at (goal.at.returns-in-Refused-within c).In_default-starts_below) c.in-Refused-within.number c.in-Refused-within.place (bad_at (goal.at.returns-in-Refused-within c).In-Refused-within)
 
-pub returns-then-out-to : goal.returns-then-out-to
-returns-then-out-to c =
-    no_room (w₁ (goal.at.returns-then-out-to c).In_default) (types₂ (goal.at.returns-then-out-to c).Else-to-ne0) (from₂ (goal.at.returns-then-out-to c).Else-to-ne0) (to₂ (goal.at.returns-then-out-to c).Else-to-ne0) (base₂ (goal.at.returns-then-out-to c).Else-to-ne0) c.args.out.now (counts₁ (goal.at.returns-then-out-to c).In_default) (ok_at (goal.at.returns-then-out-to c).In_default) (in_order (goal.at.returns-then-out-to c).Else-to-ne0) (inside (goal.at.returns-then-out-to c).Else-to-ne0) (whole_from (goal.at.returns-then-out-to c).Else-to-ne0) (whole_to (goal.at.returns-then-out-to c).Else-to-ne0)
-    (high_at (goal.at.returns-then-out-to c).In_default-starts_below) (figures₆ (goal.at.returns-then-out-to c).In_default-within) (good_at (goal.at.returns-then-out-to c).In_default-within) c.if-out-to.true
-
 pub returns-then-from-to : goal.returns-then-from-to
 returns-then-from-to c =
     accepts_none (w₁ (goal.at.returns-then-from-to c).In_default) (types₂ (goal.at.returns-then-from-to c).Else-to-ne0) (from₂ (goal.at.returns-then-from-to c).Else-to-ne0) (to₂ (goal.at.returns-then-from-to c).Else-to-ne0) (base₂ (goal.at.returns-then-from-to c).Else-to-ne0) c.args.out.now (counts₁ (goal.at.returns-then-from-to c).In_default) (ok_at (goal.at.returns-then-from-to c).In_default) (in_order (goal.at.returns-then-from-to c).Else-to-ne0) (inside (goal.at.returns-then-from-to c).Else-to-ne0) (whole_from (goal.at.returns-then-from-to c).Else-to-ne0) (whole_to (goal.at.returns-then-from-to c).Else-to-ne0)
-    (high_at (goal.at.returns-then-from-to c).In_default-starts_below) (figures₆ (goal.at.returns-then-from-to c).In_default-within) (good_at (goal.at.returns-then-from-to c).In_default-within) c.if-out-to.false c.if-from-to.true
+    (high_at (goal.at.returns-then-from-to c).In_default-starts_below) (figures₆ (goal.at.returns-then-from-to c).In_default-within) (good_at (goal.at.returns-then-from-to c).In_default-within) (omega (arith, inside (goal.at.returns-then-from-to c).Else-to-ne0)) c.if-from-to.true
 
 pub overflow_cast-from-2 : goal.overflow_cast-from-2
 overflow_cast-from-2 c = omega (arith, small_at (goal.at.overflow_cast-from-2 c).In_default, in_order (goal.at.overflow_cast-from-2 c).Else-to-ne0, inside (goal.at.overflow_cast-from-2 c).Else-to-ne0)
@@ -217,5 +212,5 @@ overflow_sub-result-2 c = omega (arith, base_low (goal.at.overflow_sub-result-2 
 pub returns : goal.returns
 returns c =
     accepts (w₁ (goal.at.returns c).In_default) (types₂ (goal.at.returns c).Else-to-ne0) (from₂ (goal.at.returns c).Else-to-ne0) (to₂ (goal.at.returns c).Else-to-ne0) (base₂ (goal.at.returns c).Else-to-ne0) c.args.out.now (counts₁ (goal.at.returns c).In_default) (ok_at (goal.at.returns c).In_default) (in_order (goal.at.returns c).Else-to-ne0) (inside (goal.at.returns c).Else-to-ne0) (whole_from (goal.at.returns c).Else-to-ne0) (whole_to (goal.at.returns c).Else-to-ne0)
-    (high_at (goal.at.returns c).In_default-starts_below) (figures₆ (goal.at.returns c).In_default-within) (good_at (goal.at.returns c).In_default-within) c.if-out-to.false c.greatest_of.result c.rebase.new.out
+    (high_at (goal.at.returns c).In_default-starts_below) (figures₆ (goal.at.returns c).In_default-within) (good_at (goal.at.returns c).In_default-within) (omega (arith, inside (goal.at.returns c).Else-to-ne0)) c.greatest_of.result c.rebase.new.out
     (told_at (goal.at.returns c).After-greatest_of ∙ greatest_at (goal.at.returns c).In_default-within) c.rebase.ensures
