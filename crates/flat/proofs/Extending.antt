@@ -177,6 +177,32 @@ module _ (w : List ℕ) (p lo b : ℕ) where
     flat_is = λ own g. rw (none_held, no_stop);
   }
 
+-- the flat part at hand ends before the record behind which it has got
+flat_ended : (w : List ℕ) (p lo b at : ℕ) (own : Option ℕ) (g : Gathered) → lo < at
+    → ends (record_at w (at - 1)) (held_at w p lo b at) (stop_at w p lo b at) ≡ true
+    → flat b own (from_back w lo (at - lo)) true (held_at w p lo b at) (stop_at w p lo b at) g
+    ≡ flat b own (from_back w lo (at - lo)) false [] 0 (gather (flat_part (held_at w p lo b at)) g)
+flat_ended w p lo b at own g l q =
+    let held = held_at w p lo b at in
+    let stop = stop_at w p lo b at in
+    ap (λ (rs : List Record). flat b own rs true held stop g) (back_step w lo at l)
+    ∙ (flat_ends b own (get_or w ((at - 1) * 4) 0) (get_or w ((at - 1) * 4 + 1) 0) (get_or w ((at - 1) * 4 + 2) 0) (get_or w ((at - 1) * 4 + 3) 0) (from_back w lo (at - 1 - lo)) held stop g q
+    ∙ ap (λ (rs : List Record). flat b own rs false [] 0 (gather (flat_part held) g)) (sym (back_step w lo at l)))
+
+-- as it does where it is full
+pub full_flat : (w : List ℕ) (p lo b at : ℕ) (own : Option ℕ) (g : Gathered) → lo < at → 16383 ≤ length (held_at w p lo b at)
+    → flat b own (from_back w lo (at - lo)) true (held_at w p lo b at) (stop_at w p lo b at) g
+    ≡ flat b own (from_back w lo (at - lo)) false [] 0 (gather (flat_part (held_at w p lo b at)) g)
+full_flat w p lo b at own g l f =
+    flat_ended w p lo b at own g l
+    (ends_full (get_or w ((at - 1) * 4) 0) (get_or w ((at - 1) * 4 + 1) 0) (get_or w ((at - 1) * 4 + 2) 0) (get_or w ((at - 1) * 4 + 3) 0) (stop_at w p lo b at) (held_at w p lo b at) f)
+
+-- nothing is held at first
+pub held_first : (w : List ℕ) (p at : ℕ) → p ≤ at → length (held_in w at (p - at)) ≡ 0
+held_first w p at l =
+    let e : p - at ≡ 0 = omega arith in
+    rw (e, held_none w at) refl
+
 module _ {w : List ℕ} {p lo b at count first end : ℕ} (h : Extending w p lo b at count first end) where
   abbrev held_here : ℕ → List Record
   held_here = held_at w p lo b
@@ -254,19 +280,8 @@ module _ {w : List ℕ} {p lo b at count first end : ℕ} (h : Extending w p lo 
       within = h.within;
       head = h.head;
       room = h.room;
-      flat_is = λ own g.
-          h.flat_is own g
-          ∙ (ap (λ (rs : List Record). flat b own rs true (held_here at) (stop_here at) g) (back_step w lo at some_record)
-          ∙ (flat_ends b own i s e n (from_back w lo (at - 1 - lo)) (held_here at) (stop_here at) g q
-          ∙ ap (λ (rs : List Record). flat b own rs false [] 0 (gather (flat_part (held_here at)) g)) (sym (back_step w lo at some_record))));
+      flat_is = λ own g. h.flat_is own g ∙ flat_ended w p lo b at own g some_record q;
     }
-
-    pub extended_full : 16383 ≤ count → Extends w p lo b at count first end
-    extended_full f = extended (ends_full i s e n (stop_here at) (held_here at) (omega (arith, h.counted))) (go (ℕ_discrete at p))
-      where
-        go : Dec (at ≡ p) → at < p
-        go (yes z) = let c : count ≡ 0 = h.counted ∙ rw (z, none_held w p lo b) in absurd (omega arith)
-        go (no z) = omega (arith, h.below)
 
     pub extended_early : n ≤ 4 → s + b < end → Extends w p lo b at count first end
     extended_early small early = extended (ends_early i s e n (stop_here at) (held_here at) small (omega (arith, h.ended))) (go (ℕ_discrete at p))

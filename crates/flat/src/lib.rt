@@ -63,6 +63,7 @@ fn held(x: Extent, q: usize, end: u32) -> Extent
 
 // Reads back from p until 16,383 records are held or one of them starts before the first one's end less the bound; records
 // above 4 words are dropped.
+#[tactic(auto, using(crate::proofs::Extending::full_flat, crate::proofs::Extending::held_first))]
 fn flat_extent(records: &[u32], p: usize, lo: usize, bound: u32) -> Extent
     requires record_width_in_bounds { p * record_width ≤ length records.now }
     requires lo_le_p { lo ≤ p }

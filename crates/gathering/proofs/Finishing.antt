@@ -123,7 +123,8 @@ is_nil_nil : (ts : Trees) → ts ≡ nil → is_nil ts ≡ true
 unfolding is_nil
 is_nil_nil ts e = rw e
 
-finish_loose : (F i s e : ℕ) (g : Gathered) (rest : Trees) → g.groups ≡ nil → finish F i s e g ⊕ rest ≡ tree (some i) s (e - s) g.loose rest
+-- with no groups: the tree of the loose children
+pub finish_loose : (F i s e : ℕ) (g : Gathered) (rest : Trees) → g.groups ≡ nil → finish F i s e g ⊕ rest ≡ tree (some i) s (e - s) g.loose rest
 unfolding finish ◌⊕◌
 finish_loose F i s e g rest h =
     let t : (ltb i F || is_nil g.groups) ≡ true = or_true (ltb i F) (is_nil g.groups) (is_nil_nil g.groups h) in

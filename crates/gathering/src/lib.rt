@@ -95,6 +95,7 @@ fn balance_repeat(
 }
 
 // The tree of a record over what it has gathered, before the list `next`; groups are balanced.
+#[tactic(auto, using(crate::proofs::Finishing::finish_loose, crate::proofs::Passing::none_at), unfolding(tree::specs::Cells::kind, tree::specs::Cells::id_word))]
 pub fn finish_node(
     work: &mut [u32],
     stack: u32,

@@ -153,6 +153,7 @@ fn left_by(found: Scan, memo: Memo) -> Memo
 
 // Packs the run of the span that ends with record p - 1, whose parent's records begin at record lo, if there is one. A record
 // longer than the bound is not scanned.
+#[tactic(auto, using(crate::proofs::Taking::long_leaves))]
 pub fn take_run(
     records: &[u32],
     p: usize,

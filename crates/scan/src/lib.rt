@@ -118,6 +118,7 @@ fn measure(work: &[u32], from: usize, at: usize, start: u32) -> BufferScan
 }
 
 // Whether a run is neither too small nor too large to pack.
+#[tactic(auto, unfolding(crate::specs::Steps::packable))]
 fn packs(size: usize, skip: usize) -> bool
     requires { skip ≤ size }
     ensures { result ≡ packable size skip }
@@ -129,6 +130,7 @@ fn packs(size: usize, skip: usize) -> bool
 }
 
 // Whether nothing can pack any more: the words seen are too many, and the run noted last does not pack.
+#[tactic(auto, unfolding(crate::specs::Steps::settles))]
 fn settled(work: &[u32], p: usize, mark: usize, at: usize) -> bool
     requires rising { Rising work.now p at }
     requires rising_2 { Rising work.now mark at }

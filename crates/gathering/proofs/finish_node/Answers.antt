@@ -1,6 +1,6 @@
 -- `gathering::finish_node` meets its contract: a tree over its loose children, or its groups balanced. Assumes nothing.
 use mathlib.Core.Path.{◌∙◌}
-use Rattle.gathering.proofs.Finishing.{finish_room, finish_fits, finish_loose_node, finish_groups_node, finish_next, finished_loose, balance_ready, finished_groups}
+use Rattle.gathering.proofs.Finishing.{finish_room, finish_fits, finish_loose_node, finish_groups_node, finish_next, balance_ready, finished_groups}
 use native.Mathlib.Omega.{arith}
 use Rattle.gathering.proofs.finish_node.Goals as goal
 
@@ -11,21 +11,13 @@ push_tree-made-requires c =
 pub overflow_add-result : goal.overflow_add-result
 overflow_add-result c = omega (arith, finish_fits c.requires)
 
-pub shape_of-work-then-g-eq0 : goal.shape_of-work-then-g-eq0
-shape_of-work-then-g-eq0 c = c.push_tree-made.ensures.kept.size
-
--- no groups
-pub returns-then-g-eq0 : goal.returns-then-g-eq0
-returns-then-g-eq0 c =
-    finished_loose c.requires c.if-g-eq0.true c.less-length.ensures c.push_tree-made.ensures
-
 pub close_rest-h-requires : goal.close_rest-h-requires
 close_rest-h-requires c =
     record { node_width_in_bounds = omega (arith, finish_room c.requires); node_width_bound = omega (arith, finish_fits c.requires); readable = finish_groups_node c.requires; readable_2 = finish_loose_node c.requires }
 
 pub balance_repeat-requires : goal.balance_repeat-requires
 balance_repeat-requires c =
-    balance_ready c.if-g-eq0.false c.close_rest-h.ensures c.requires
+    balance_ready (λ e. omega arith) c.close_rest-h.ensures c.requires
 
 pub shape_of-work : goal.shape_of-work
 shape_of-work c =
@@ -34,4 +26,4 @@ shape_of-work c =
 -- groups
 pub returns : goal.returns
 returns c =
-    finished_groups c.if-g-eq0.false c.close_rest-h.ensures c.requires c.balance_repeat.ensures
+    finished_groups (λ e. omega arith) c.close_rest-h.ensures c.requires c.balance_repeat.ensures

@@ -4,11 +4,6 @@ use Rattle.cursor.specs.Own.{own_of}
 use Rattle.pack.proofs.Taking as L
 use Rattle.pack.proofs.take_run.Goals as goal
 
-pub returns-then-bound-end : goal.returns-then-bound-end
-returns-then-bound-end c =
-    λ T from to i st e kids rest h f.
-    L.takes_long c.args.first_repeat c.args.bound (own_of c.args.own) c.args.records.now c.args.lo c.args.p c.args.memo c.args.work.now c.args.low i st e kids rest h _ _ c.start_at.ensures c.end_at-end.ensures c.if-bound-end.true
-
 pub returns-in_default : goal.returns-in_default
 returns-in_default c =
     λ T from to i st e kids rest h f.

