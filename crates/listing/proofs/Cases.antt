@@ -1,10 +1,16 @@
 -- The call `list`, refusal by refusal and where it is accepted. Assumes nothing.
-use mathlib.Core.Path.{◌≡◌, sym}
+use mathlib.Core.Path.{◌≡◌, refl, sym}
+use mathlib.Core.Bool.{false}
 use mathlib.Core.List.{List, [], ◌∷◌}
 use mathlib.Core.Option.{none, some}
 use Prim.Native.Nat.{ℕ, ◌+◌, ◌-◌, ◌*◌, ◌/◌, ◌≤◌, ◌<◌}
 use native.Mathlib.Omega.{arith}
-use lib.ListN.{length}
+use lib.Dec.{ltb}
+use lib.ListN.{length, get_or}
+use mir.Val.{Fits}
+use mir.Syntax.{w16}
+use borrow.Author.Tests.{ltb-false}
+use Rattle.rules.proofs.PartRead.{short_of}
 use Rattle.tree.specs.Cells.{cell_width}
 use Rattle.tree.specs.Well.{Short}
 use Rattle.words.specs.Outcome.{accepted, refused, Result}
@@ -82,3 +88,17 @@ module _ {T F S : ℕ} {cs ws : List ℕ} {work : ℕ} {out : List ℕ} (p : Pas
       all_written out' h =
           let e : length (list_cells F S cs ws) / 4 ≡ count = omega (arith, size_is) in
           sym (rw (e, sym h) at (list_writes T p.types cs ws work out F S p.ok p.lent (omega (arith, size_is)) (omega (arith, size_is))))
+
+-- more lines than the slice has room for
+pub room_refused : (T F S : ℕ) (cs ws : List ℕ) (work : ℕ) (out : List ℕ) → T ≤ 65536 → ltb work (96 * items cs ws + 96) ≡ false → S < 4294967296
+    → ((j : ℕ) → Fits w16 (get_or ws j 0)) → bad_cell T S cs ws ≡ none → length out / 4 < lines_from F cs 1 (length cs / 7 - 1) + listed_in F ws
+    → record { outcome = refused 14 0; outputs = out ∷ [] } ≡ list_call T F S cs ws work out
+room_refused T F S cs ws work out types enough fits words ok h =
+    let passed : Passed T F S cs ws work out = record {
+      types = types;
+      lent = ltb-false work (96 * items cs ws + 96) enough;
+      fits = omega arith;
+      short = short_of ws (λ j. omega (arith, words j));
+      ok = ok;
+    } in
+    little_room passed (lines_from F cs 1 (length cs / cell_width - 1) + listed_in F ws) refl h

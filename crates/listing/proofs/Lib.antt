@@ -4,3 +4,4 @@ pub mod Turns
 pub mod Begins
 pub mod Writes
 pub mod Cases
+pub mod Unlisted

@@ -26,6 +26,7 @@ pub enum Listed {
 }
 
 // Does cell i, counted from 0, have a line of its own? The top aside.
+#[tactic(auto, using(crate::proofs::Unlisted::not_listed))]
 fn is_listed(cells: &[u32], first_repeat: u32, i: usize) -> bool
     requires { i * cell_width + cell_width ≤ length cells.now }
     ensures { result ≡ is_listed first_repeat cells.now i }
@@ -223,6 +224,7 @@ fn write_lines(
 
 // The call `list`: 1, 11, 15, 14; then the lines. It does not look at the node set: id 0 is listed where it is ordinary, whatever place 0
 // of the set is.
+#[tactic(auto, using(crate::proofs::Cases::room_refused))]
 pub fn list(
     types: u32,
     first_repeat: u32,

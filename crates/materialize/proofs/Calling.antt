@@ -1,5 +1,5 @@
 -- The call, refusal by refusal in its order, and what it writes. Assumes nothing.
-use mathlib.Core.Path.{◌≡◌, sym, ◌∙◌}
+use mathlib.Core.Path.{◌≡◌, refl, sym, ◌∙◌}
 use mathlib.Core.Bool.{true, false}
 use mathlib.Core.List.{List, [], ◌∷◌}
 use mathlib.Core.Option.{none, some}
@@ -76,3 +76,8 @@ module _ (T : ℕ) (cs ws : List ℕ) (work : ℕ) (out : List ℕ) where
           where
             room_deep : cells_before cs (length cs / cell_width) ≤ items cs ws → total + length cs / cell_width ≤ length held
             room_deep b = omega (arith, b, total_here, lent, e, cells_few cs ws)
+
+-- more cells than 32-bit words can number
+pub many_refused : (T : ℕ) (cs ws : List ℕ) (work : ℕ) (out : List ℕ) → T ≤ 65536 → ltb work (96 * items cs ws + 96) ≡ false → bad_cell T 0 cs ws ≡ none
+    → 4294967295 < cells_before cs (length cs / cell_width) → record { outcome = refused 12 0; outputs = out ∷ [] } ≡ materialise_call T cs ws work out
+many_refused T cs ws work out types enough ok h = refuses_many T cs ws work out types enough ok (cells_before cs (length cs / cell_width)) refl h

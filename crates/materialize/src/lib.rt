@@ -326,6 +326,7 @@ pub enum Materialized {
 
 // Materialise: 1, 11, 15, 12; then the cells of the tree with its packed records as trees. It does not look at the node set: a tree or
 // record of id 0 is one of kind 1 with id 0, whatever place 0 of the set is.
+#[tactic(auto, using(crate::proofs::Calling::many_refused))]
 pub fn materialize(
     types: u32,
     cells: &[u32],

@@ -13,7 +13,7 @@ use Rattle.part_lines.specs.Steps.{listed_in}
 use Rattle.part_lines.proofs.Counts.{listed_few}
 use Rattle.listing.specs.Steps.{lines_from}
 use Rattle.listing.proofs.Writes.{lines_few}
-use Rattle.listing.proofs.Cases.{many_types, little_work, bad_at, Passed, whole_cells, too_many, little_room, all_lent, all_written}
+use Rattle.listing.proofs.Cases.{many_types, little_work, bad_at, Passed, whole_cells, too_many, all_lent, all_written}
 use Rattle.listing.proofs.list.Goals.{After-count_listed-packed, Else-too_little_work, In_default, Start}
 use Rattle.listing.proofs.list.Goals as goal
 
@@ -94,14 +94,10 @@ pub returns-then-count-gt-MOST_LINES : goal.returns-then-count-gt-MOST_LINES
 returns-then-count-gt-MOST_LINES c =
     too_many (passed_at (goal.at.returns-then-count-gt-MOST_LINES c).In_default) (count (goal.at.returns-then-count-gt-MOST_LINES c).After-count_listed-packed) (counted (goal.at.returns-then-count-gt-MOST_LINES c).After-count_listed-packed) c.if-count-gt-MOST_LINES.true
 
-pub returns-then-lines-count : goal.returns-then-lines-count
-returns-then-lines-count c =
-    little_room (passed_at (goal.at.returns-then-lines-count c).In_default) (count (goal.at.returns-then-lines-count c).After-count_listed-packed) (counted (goal.at.returns-then-lines-count c).After-count_listed-packed) c.if-lines-count.true
-
 pub write_lines-requires : goal.write_lines-requires
 write_lines-requires c =
-    all_lent (passed_at (goal.at.write_lines-requires c).In_default) (count (goal.at.write_lines-requires c).After-count_listed-packed) (counted (goal.at.write_lines-requires c).After-count_listed-packed) c.if-count-gt-MOST_LINES.false c.if-lines-count.false _ c.tree_check.auto.work
+    all_lent (passed_at (goal.at.write_lines-requires c).In_default) (count (goal.at.write_lines-requires c).After-count_listed-packed) (counted (goal.at.write_lines-requires c).After-count_listed-packed) c.if-count-gt-MOST_LINES.false (omega arith) _ c.tree_check.auto.work
 
 pub returns : goal.returns
 returns c =
-    all_written (passed_at (goal.at.returns c).In_default) (count (goal.at.returns c).After-count_listed-packed) (counted (goal.at.returns c).After-count_listed-packed) c.if-count-gt-MOST_LINES.false c.if-lines-count.false c.write_lines.new.lines c.write_lines.ensures
+    all_written (passed_at (goal.at.returns c).In_default) (count (goal.at.returns c).After-count_listed-packed) (counted (goal.at.returns c).After-count_listed-packed) c.if-count-gt-MOST_LINES.false (omega arith) c.write_lines.new.lines c.write_lines.ensures

@@ -13,7 +13,7 @@ use Rattle.rules.specs.Lowest.{bad_cell}
 use Rattle.rules.specs.Calls.{items}
 use Rattle.rules.proofs.PartRead.{short_of}
 use Rattle.materialize.proofs.Accepting.{total_few}
-use Rattle.materialize.proofs.Calling.{refuses_types, refuses_work, lent, refuses_cell, refuses_many, refuses_room, accepts, ready}
+use Rattle.materialize.proofs.Calling.{refuses_types, refuses_work, lent, refuses_cell, refuses_room, accepts, ready}
 use Rattle.materialize.proofs.materialize.Goals.{Else-too_little_work, Else-types-gt65536, In_default, Start}
 use Rattle.materialize.proofs.materialize.Goals as goal
 
@@ -76,24 +76,19 @@ pub count_cells-total-requires : goal.count_cells-total-requires
 count_cells-total-requires c =
     omega (arith, total_few (types (goal.at.count_cells-total-requires c).Start) (cs (goal.at.count_cells-total-requires c).Start) (ws (goal.at.count_cells-total-requires c).Start) (no_fault (goal.at.count_cells-total-requires c).In_default) (short_words (goal.at.count_cells-total-requires c).In_default), work_lent (goal.at.count_cells-total-requires c).Else-too_little_work)
 
-pub returns-then-total-gt4294967295 : goal.returns-then-total-gt4294967295
-returns-then-total-gt4294967295 c =
-    refuses_many (types (goal.at.returns-then-total-gt4294967295 c).Start) (cs (goal.at.returns-then-total-gt4294967295 c).Start) (ws (goal.at.returns-then-total-gt4294967295 c).Start) (work (goal.at.returns-then-total-gt4294967295 c).Start) (out (goal.at.returns-then-total-gt4294967295 c).Start) (few_types (goal.at.returns-then-total-gt4294967295 c).Else-types-gt65536) (enough_work (goal.at.returns-then-total-gt4294967295 c).Else-too_little_work) (no_fault (goal.at.returns-then-total-gt4294967295 c).In_default)
-    c.count_cells-total.result c.count_cells-total.ensures c.if-total-gt4294967295.true
-
 pub returns-then-out-total : goal.returns-then-out-total
 returns-then-out-total c =
     refuses_room (types (goal.at.returns-then-out-total c).Start) (cs (goal.at.returns-then-out-total c).Start) (ws (goal.at.returns-then-out-total c).Start) (work (goal.at.returns-then-out-total c).Start) (out (goal.at.returns-then-out-total c).Start) (few_types (goal.at.returns-then-out-total c).Else-types-gt65536) (enough_work (goal.at.returns-then-out-total c).Else-too_little_work) (no_fault (goal.at.returns-then-out-total c).In_default)
-    c.count_cells-total.result c.count_cells-total.ensures (omega (arith, c.if-total-gt4294967295.false)) c.if-out-total.true
+    c.count_cells-total.result c.count_cells-total.ensures (omega arith) c.if-out-total.true
 
 pub write_back-requires : goal.write_back-requires
 write_back-requires c =
     ready (types (goal.at.write_back-requires c).Start) (cs (goal.at.write_back-requires c).Start) (ws (goal.at.write_back-requires c).Start) (work (goal.at.write_back-requires c).Start) (out (goal.at.write_back-requires c).Start) (few_types (goal.at.write_back-requires c).Else-types-gt65536) (enough_work (goal.at.write_back-requires c).Else-too_little_work) (no_fault (goal.at.write_back-requires c).In_default)
     c.count_cells-total.result c.count_cells-total.ensures c.tree_check.new.work c.tree_check.auto.work
-    (short_words (goal.at.write_back-requires c).In_default) (omega (arith, c.if-total-gt4294967295.false)) (omega (arith, c.if-out-total.false))
+    (short_words (goal.at.write_back-requires c).In_default) (omega arith) (omega (arith, c.if-out-total.false))
 
 pub returns : goal.returns
 returns c =
     accepts (types (goal.at.returns c).Start) (cs (goal.at.returns c).Start) (ws (goal.at.returns c).Start) (work (goal.at.returns c).Start) (out (goal.at.returns c).Start) (few_types (goal.at.returns c).Else-types-gt65536) (enough_work (goal.at.returns c).Else-too_little_work) (no_fault (goal.at.returns c).In_default)
     c.count_cells-total.result c.count_cells-total.ensures c.write_back.new.out
-    (omega (arith, c.if-total-gt4294967295.false)) (omega (arith, c.if-out-total.false)) c.write_back.ensures
+    (omega arith) (omega (arith, c.if-out-total.false)) c.write_back.ensures
