@@ -104,6 +104,12 @@ long_leaves F b own i s e kids rest h =
     (long_none F b own i s e kids rest h, λ at limit memo f v. remembered_lower at (span i s e kids rest) limit (e - b) memo f v)
 
 module _ (F b : ℕ) (own : Option ℕ) (w : List ℕ) (lo p : ℕ) (memo : Memo) (l : List ℕ) (low i s e : ℕ) (kids rest : Items) (h : Scans F own w l lo p b memo i s e kids rest) where
+  pub takes_long : (start end : ℕ) → start ≡ get_or w ((p - 1) * 4 + 1) 0 → end ≡ get_or w ((p - 1) * 4 + 2) 0 → b < end - start
+      → Takes F b i s e kids rest p l low (run_from F b own i s e kids rest) (Unpacked memo) l
+  takes_long start end x y long =
+      let z : b < e - s = omega (arith, x, y, h.stands.spells.start, h.stands.spells.end) in
+      rw (long_none F b own i s e kids rest z) (memo, refl, remembered_lower p (span i s e kids rest) h.limit (e - b) memo h.falls h.remembered, refl)
+
   -- the scan found nothing
   pub takes_none : (r : Scan) (m n : Memo) → Found F p (e - b) i s e kids rest (run_from F b own i s e kids rest) r → r ≡ Nothing n → m ≡ memo_of r memo
       → Takes F b i s e kids rest p l low (run_from F b own i s e kids rest) (Unpacked m) l
