@@ -283,6 +283,13 @@ module _ {w : List ℕ} {p lo b at count first end : ℕ} (h : Extending w p lo 
       flat_is = λ own g. h.flat_is own g ∙ flat_ended w p lo b at own g some_record q;
     }
 
+    pub extended_full : 16383 ≤ count → Extends w p lo b at count first end
+    extended_full f = extended (ends_full i s e n (stop_here at) (held_here at) (omega (arith, h.counted))) (go (ℕ_discrete at p))
+      where
+        go : Dec (at ≡ p) → at < p
+        go (yes z) = let c : count ≡ 0 = h.counted ∙ rw (z, none_held w p lo b) in absurd (omega arith)
+        go (no z) = omega (arith, h.below)
+
     pub extended_early : n ≤ 4 → s + b < end → Extends w p lo b at count first end
     extended_early small early = extended (ends_early i s e n (stop_here at) (held_here at) small (omega (arith, h.ended))) (go (ℕ_discrete at p))
       where
