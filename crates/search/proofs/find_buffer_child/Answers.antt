@@ -17,7 +17,7 @@ use Prim.Native.Nat.{ℕ, ◌≤◌, ◌+◌, ◌-◌}
 use mathlib.Core.Bool.{Bool, true, false}
 use mathlib.Core.List.{List, ◌∷◌}
 use mathlib.Core.Path.{◌≡◌, sym, ◌∙◌, refl, ap}
-use Rattle.search.proofs.find_buffer_child.Goals.{then-matches+else-direction-gt0, else-matches, In-loop-index, Start}
+use Rattle.search.proofs.find_buffer_child.Goals.{In-loop-index, Start}
 use Rattle.search.proofs.find_buffer_child.Goals as goal
 
 -- at a turn: the end indices can be followed, and the record at the index can be read
