@@ -4,7 +4,7 @@ use mathlib.Core.Bool.{Bool}
 use mathlib.Core.List.{List}
 use mathlib.Core.Option.{Option, none, some}
 use mathlib.Core.Logic.{⊎_elim}
-use Prim.Native.Nat.{ℕ, ◌+◌, ◌-◌, ◌*◌, ◌≤◌, ◌<◌}
+use Prim.Native.Nat.{ℕ, ◌+◌, ◌-◌, ◌*◌, ◌/◌, ◌≤◌, ◌<◌}
 use native.Mathlib.Omega.{arith}
 use borrow.Author.Tests.{lt-leb}
 use lib.ListN.{length, get_or}
@@ -134,7 +134,7 @@ module _ (f : Bool) (held cs ws : List ℕ) (n high low : ℕ) (b : Building f h
         deep = omega (arith, live.1, size, b.inside, free);
       }
 
-  pub left_standing : get_or cs 5 0 ≤ 8 → Standing held high (high - 10) (balanced f (handed_in cs ws))
+  left_standing : get_or cs 5 0 ≤ 8 → Standing held high (high - 10) (balanced f (handed_in cs ws))
   left_standing m =
       let e : balanced f (handed_in cs ws) ≡ handed_in cs ws = ap (balanced f) h.tree_is ∙ untouched f (some h.top) 0 h.len h.kids nil (omega (arith, top.count_is)) ∙ sym h.tree_is in
       standing held high (high - 10) refl (subst (Holds f held n high low (high - 10)) (sym e) root_held) (omega (arith, few, h.count, room, b.high_is))
@@ -215,3 +215,8 @@ module _ (f : Bool) (held cs ws : List ℕ) (n high low : ℕ) (b : Building f h
           ap (λ (l : ℕ). balance (in_set f (some h.top)) (in_set f none) 0 l h.kids ⊕ nil) top.len_is
           ∙ sym (ap (balanced f) h.tree_is ∙ divides f (some h.top) 0 h.len h.kids nil (omega (arith, top.count_is))) in
           standing held' rtop rnode p.kept.size (subst (Holds f held' n rtop low rnode) e (p.holds ready)) (omega (arith, p.used, few, row_small, size_is, h.count, room, b.high_is))
+
+-- up to 8 children stay as they are; `low` stands in a premise, where a tactic finds it
+pub left_alone : (f : Bool) (held cs ws : List ℕ) (high : ℕ) → (low : ℕ) × (Building f held cs ws (length cs / 7) high low 0 × (length cs / 7 * 35 ≤ low)) → get_or cs 5 0 ≤ 8
+    → Standing held high (high - 10) (balanced f (handed_in cs ws))
+left_alone f held cs ws high b m = left_standing f held cs ws (length cs / 7) high b.0 b.1.0 b.1.1 m

@@ -174,6 +174,7 @@ fn push_cells(none_first: bool, cells: &[u32], high: u32, low: u32, work: &mut [
 }
 
 // The tree with its children balanced, if there are more than 8.
+#[tactic(auto, using(crate::proofs::Rebuilding::left_alone))]
 fn rebuild(none_first: bool, cells: &[u32], high: u32, low: u32, work: &mut [u32]) -> Made
     requires by_index { (ws : List ℕ) × Building none_first work.old cells.now ws (length cells.now / cell_width) high low 0 }
     requires cell_width_len_bound { length cells.now / cell_width * 35 ≤ low }
@@ -207,6 +208,7 @@ pub enum Balanced {
 }
 
 // 12, 13, or the tree is written out.
+#[tactic(auto, using(crate::proofs::Writing::cells_refused, crate::proofs::Writing::nodes_any))]
 fn write_out(work: &mut [u32], top: u32, root: u32, out: &mut [u32], packed: &mut [u16]) -> Balanced
     requires { (ts : Trees) × Standing work.old top root ts }
     ensures { (ts : Trees) → Standing work.old top root ts → record { outcome = balanced_outcome result; outputs = out.new ∷ packed.new ∷ [] } ≡ settled_tree ts out.old packed.old }

@@ -7,7 +7,7 @@ use Prim.Native.Nat.{ℕ, suc, ◌+◌, ◌*◌, ◌/◌, ◌≤◌, ◌<◌}
 use native.Mathlib.Omega.{arith}
 use lib.ListN.{length}
 use Rattle.words.specs.Outcome.{accepted, refused}
-use Rattle.tree.specs.Trees.{Trees, nil, tree, nodes}
+use Rattle.tree.specs.Trees.{Trees, nil, tree, part, nodes}
 use Rattle.tree.specs.Cells.{cell_width, packed, tree_cells}
 use Rattle.tree.specs.Calls.{room}
 use Rattle.store.specs.Store.{told, Readable, TopReady, TopWrote}
@@ -41,9 +41,6 @@ module _ (held : List ℕ) (top kids : ℕ) (q : Writes held top kids) (id S l :
 
   nodes_is : nodes whole ≡ n
   nodes_is = whole_nodes id S l q.trees ∙ sym n_is
-
-  pub refuses_cells : length out / cell_width < n → record { outcome = refused 12 0; outputs = out ∷ words ∷ [] } ≡ written_out id S l q.trees out words
-  refuses_cells h = rw (cells_short (nodes whole) (length (packed whole)) (length out) (length words) (omega (arith, nodes_is)))
 
   module _ (fits : n ≤ length out / cell_width) (m : ℕ) (m-told : m ≡ told held kids 7) where
     m_is : m ≡ length (packed q.trees)
@@ -83,3 +80,21 @@ module _ (held : List ℕ) (top kids : ℕ) (q : Writes held top kids) (id S l :
       writes out' words' w =
           result_is S whole n m out out' words words' (packed q.trees) nodes_is packed_is (whole_packed id S l q.trees) (w.cells_out readied) (w.words_out readied)
           (room_enough (nodes whole) (length (packed whole)) (length out) (length words) cells_fit (omega (arith, packed_is)))
+
+-- k, or 0 of an empty list
+abbrev pub any_or_none : Trees → ℕ → ℕ
+any_or_none nil k = 0
+any_or_none (tree t s l kids rest) k = k
+any_or_none (part s l ws rest) k = k
+
+-- An empty list has no nodes. A tactic that is given this looks at the first node of a list, which tells how many there are.
+pub nodes_any : (ts : Trees) → nodes ts ≡ any_or_none ts (nodes ts)
+unfolding nodes
+nodes_any nil = refl
+nodes_any (tree t s l kids rest) = refl
+nodes_any (part s l ws rest) = refl
+
+-- the slice has no space for the cells
+pub cells_refused : (id S l : ℕ) (kids : Trees) (out words : List ℕ) → length out / cell_width < nodes kids + 1
+    → record { outcome = refused 12 0; outputs = out ∷ words ∷ [] } ≡ written_out id S l kids out words
+cells_refused id S l kids out words h = rw (cells_short (nodes (tree (some id) S l kids nil)) (length (packed (tree (some id) S l kids nil))) (length out) (length words) (omega (arith, whole_nodes id S l kids)))

@@ -95,6 +95,7 @@ fn read_list(
 }
 
 // 12, 13, or the whole tree over the first-level trees is written out.
+#[tactic(auto, using(crate::proofs::Writing::cells_refused, crate::proofs::Writing::nodes_any))]
 fn write_result(
     work: &mut [u32],
     id: u32,

@@ -1,6 +1,6 @@
 -- `balance::rebuild` meets its contract: up to 8 children stay, more are balanced. Assumes nothing.
 use Rattle.balance.specs.Steps.{Building, address}
-use Rattle.balance.proofs.Rebuilding.{cells_inside, ten, first_in, left_standing, row_there, row_total, range_ready, divided_standing}
+use Rattle.balance.proofs.Rebuilding.{cells_inside, ten, first_in, row_there, row_total, range_ready, divided_standing}
 use Prim.Native.Nat.{ℕ, ◌*◌, ◌/◌, ◌≤◌, ◌<◌}
 use mathlib.Core.List.{List}
 use mathlib.Core.Path.{◌≡◌}
@@ -48,7 +48,7 @@ module _ (z : Start) where
 -- there are more than 8 children, and the first one's node is known
 module _ (k : After-node_of-kids) where
   many : 8 < get_or (cs (goal.at.After-node_of-kids k).Start) 5 0
-  many = omega (arith, k.if-count-le8.false)
+  many = omega arith
 
   abbrev kids : ℕ
   kids = k.node_of-kids.result
@@ -61,10 +61,6 @@ bounds-cells-5 c = omega (arith, top_inside (goal.at.bounds-cells-5 c).Start)
 
 pub overflow_sub-result : goal.overflow_sub-result
 overflow_sub-result c = omega (arith, node_inside (goal.at.overflow_sub-result c).Start)
-
-pub returns-then-count-le8 : goal.returns-then-count-le8
-returns-then-count-le8 c =
-    λ ws b. left_standing c.args.none_first (held (goal.at.returns-then-count-le8 c).Start) (cs (goal.at.returns-then-count-le8 c).Start) ws (n (goal.at.returns-then-count-le8 c).Start) (high (goal.at.returns-then-count-le8 c).Start) (low (goal.at.returns-then-count-le8 c).Start) b (room (goal.at.returns-then-count-le8 c).Start) (omega (arith, c.if-count-le8.true))
 
 pub bounds-cells-4 : goal.bounds-cells-4
 bounds-cells-4 c = omega (arith, top_inside (goal.at.bounds-cells-4 c).Start)

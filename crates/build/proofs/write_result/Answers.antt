@@ -2,7 +2,7 @@
 use mathlib.Core.Path.{refl, ◌∙◌}
 use Prim.Native.Nat.{◌+◌}
 use native.Mathlib.Omega.{arith}
-use Rattle.build.proofs.Writing.{kids_read, refuses_cells, refuses_words, top_ready, writes}
+use Rattle.build.proofs.Writing.{kids_read, refuses_words, top_ready, writes}
 use Rattle.build.proofs.write_result.Goals as goal
 
 pub tell-requires : goal.tell-requires
@@ -13,18 +13,14 @@ pub tell-requires-2 : goal.tell-requires-2
 tell-requires-2 c =
     record { readable = kids_read c.args.work.now c.args.first.top c.args.first.kids c.requires; k_lt_node_width = omega arith }
 
-pub returns-then-cells-count : goal.returns-then-cells-count
-returns-then-cells-count c =
-    λ q. refuses_cells c.args.work.now c.args.first.top c.args.first.kids q c.args.id c.args.start c.args.length c.args.cells.now c.args.words.now (c.index-count.result + 1) c.index-count.result (c.index-count.ensures ∙ c.tell.ensures) refl c.if-cells-count.true
-
 pub returns-then-words-packed : goal.returns-then-words-packed
 returns-then-words-packed c =
-    λ q. refuses_words c.args.work.now c.args.first.top c.args.first.kids q c.args.id c.args.start c.args.length c.args.cells.now c.args.words.now (c.index-count.result + 1) c.index-count.result (c.index-count.ensures ∙ c.tell.ensures) refl (omega (arith, c.if-cells-count.false)) c.index-packed.result (c.index-packed.ensures ∙ c.tell-2.ensures) c.if-words-packed.true
+    λ q. refuses_words c.args.work.now c.args.first.top c.args.first.kids q c.args.id c.args.start c.args.length c.args.cells.now c.args.words.now (c.index-count.result + 1) c.index-count.result (c.index-count.ensures ∙ c.tell.ensures) refl (omega arith) c.index-packed.result (c.index-packed.ensures ∙ c.tell-2.ensures) c.if-words-packed.true
 
 pub write_top-requires : goal.write_top-requires
 write_top-requires c =
-    top_ready c.args.work.now c.args.first.top c.args.first.kids c.requires c.args.id c.args.start c.args.length c.args.cells.now c.args.words.now (c.index-count.result + 1) c.index-count.result (c.index-count.ensures ∙ c.tell.ensures) refl (omega (arith, c.if-cells-count.false)) c.index-packed.result (c.index-packed.ensures ∙ c.tell-2.ensures) (omega (arith, c.if-words-packed.false))
+    top_ready c.args.work.now c.args.first.top c.args.first.kids c.requires c.args.id c.args.start c.args.length c.args.cells.now c.args.words.now (c.index-count.result + 1) c.index-count.result (c.index-count.ensures ∙ c.tell.ensures) refl (omega arith) c.index-packed.result (c.index-packed.ensures ∙ c.tell-2.ensures) (omega (arith, c.if-words-packed.false))
 
 pub returns : goal.returns
 returns c =
-    λ q. writes c.args.work.now c.args.first.top c.args.first.kids q c.args.id c.args.start c.args.length c.args.cells.now c.args.words.now (c.index-count.result + 1) c.index-count.result (c.index-count.ensures ∙ c.tell.ensures) refl (omega (arith, c.if-cells-count.false)) c.index-packed.result (c.index-packed.ensures ∙ c.tell-2.ensures) (omega (arith, c.if-words-packed.false)) c.write_top.new.out c.write_top.new.words c.write_top.ensures
+    λ q. writes c.args.work.now c.args.first.top c.args.first.kids q c.args.id c.args.start c.args.length c.args.cells.now c.args.words.now (c.index-count.result + 1) c.index-count.result (c.index-count.ensures ∙ c.tell.ensures) refl (omega arith) c.index-packed.result (c.index-packed.ensures ∙ c.tell-2.ensures) (omega (arith, c.if-words-packed.false)) c.write_top.new.out c.write_top.new.words c.write_top.ensures
