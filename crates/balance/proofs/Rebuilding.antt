@@ -134,7 +134,7 @@ module _ (f : Bool) (held cs ws : List ℕ) (n high low : ℕ) (b : Building f h
         deep = omega (arith, live.1, size, b.inside, free);
       }
 
-  left_standing : get_or cs 5 0 ≤ 8 → Standing held high (high - 10) (balanced f (handed_in cs ws))
+  pub left_standing : get_or cs 5 0 ≤ 8 → Standing held high (high - 10) (balanced f (handed_in cs ws))
   left_standing m =
       let e : balanced f (handed_in cs ws) ≡ handed_in cs ws = ap (balanced f) h.tree_is ∙ untouched f (some h.top) 0 h.len h.kids nil (omega (arith, top.count_is)) ∙ sym h.tree_is in
       standing held high (high - 10) refl (subst (Holds f held n high low (high - 10)) (sym e) root_held) (omega (arith, few, h.count, room, b.high_is))

@@ -16,6 +16,10 @@ module _ (held : List ℕ) (top root : ℕ) (ts : Trees) (s : Standing held top 
   n_is : n ≡ nodes ts
   n_is = n-told ∙ tells_cells s.none_first held s.base top s.low root ts s.holds ∙ omega (arith, s.few)
 
+  pub refuses_cells : length out / cell_width < n → record { outcome = refused 12 0; outputs = out ∷ words ∷ [] } ≡ settled_tree ts out words
+  unfolding settled_tree
+  refuses_cells h = rw (few_cells (nodes ts) (length (packed ts)) (length out) (length words) (omega (arith, s.few)) (omega (arith, n_is)))
+
   module _ (fits : n ≤ length out / cell_width) (m : ℕ) (m-told : m ≡ told held root 7) where
     m_is : m ≡ length (packed ts)
     m_is = m-told ∙ tells_words s.none_first held s.base top s.low root ts s.holds ∙ omega (arith, s.narrow)

@@ -42,6 +42,9 @@ module _ (held : List ℕ) (top kids : ℕ) (q : Writes held top kids) (id S l :
   nodes_is : nodes whole ≡ n
   nodes_is = whole_nodes id S l q.trees ∙ sym n_is
 
+  pub refuses_cells : length out / cell_width < n → record { outcome = refused 12 0; outputs = out ∷ words ∷ [] } ≡ written_out id S l q.trees out words
+  refuses_cells h = rw (cells_short (nodes whole) (length (packed whole)) (length out) (length words) (omega (arith, nodes_is)))
+
   module _ (fits : n ≤ length out / cell_width) (m : ℕ) (m-told : m ≡ told held kids 7) where
     m_is : m ≡ length (packed q.trees)
     m_is = let e = m-told ∙ tells_words false held q.base top q.low kids q.trees q.holds in omega (arith, q.narrow, e)
