@@ -105,7 +105,7 @@ fn opened(rt: HostRuntime, page: &mut [u8], path: &[u8]) -> Source {
 }
 
 // The source that argument `file` names, or standard input where it is 0; none, after a message, where it cannot be opened.
-pub fn source_of(rt: HostRuntime, page: &mut [u8], file: usize) -> Source {
+pub fn descriptor(rt: HostRuntime, page: &mut [u8], file: usize) -> Source {
     if file == 0 {
         return Source::Input(rt.stdin());
     }

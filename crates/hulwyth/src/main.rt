@@ -45,7 +45,7 @@ fn read_source(source: Source, room: &mut [u8]) -> Input
 
 // Reads the text that is asked for, and shows what is made of it or says why it cannot be read.
 fn read(rt: HostRuntime, page: &mut [u8], options: Options) {
-    let from = input::source_of(rt, page, options.file);
+    let from = input::descriptor(rt, page, options.file);
     if let Source::Nothing = from {
         return;
     }
