@@ -3,7 +3,7 @@
 
 ghost use Rattle.std.specs.Prelude.{◌≡◌, [], ◌∷◌};
 ghost use lib.ListN;
-ghost use lib.ListN.{length, set};
+ghost use lib.ListN.{length};
 ghost use Rattle.records.specs.Check.{check};
 ghost use Rattle.tree.specs.Calls.{build_call};
 ghost use Rattle.rules.specs.Calls.{materialise_call, balance_call, list_call};
