@@ -2,7 +2,7 @@
 use mathlib.Core.Path.{◌≡◌, refl, sym, ◌∙◌}
 use mathlib.Core.Bool.{Bool, true, false}
 use mathlib.Core.List.{List, [], ◌∷◌}
-use mathlib.Core.Option.{none, some}
+use Rattle.std.specs.Prelude.{None, Some}
 use Prim.Native.Nat.{ℕ, ◌+◌, ◌*◌, ◌/◌, ◌≤◌, ◌<◌}
 use native.Mathlib.Omega.{arith}
 use borrow.Author.Tests.{ltb-false, ltb-true}
@@ -30,13 +30,13 @@ module _ (T : ℕ) (f : Bool) (cs ws : List ℕ) (work : ℕ) (out words : List 
     refuses_work h = sym (balance_refused T cs ws work out 11 0 f words (λ o. work_refused T 0 cs ws work o types (ltb-true work (96 * items cs ws + 96) h)))
 
     module _ (enough_work : ltb work (96 * items cs ws + 96) ≡ false) where
-      pub lent : 96 * items cs ws + 96 ≤ work
+      lent : 96 * items cs ws + 96 ≤ work
       lent = ltb-false work (96 * items cs ws + 96) enough_work
 
-      pub refuses_cell : (c : ℕ) → bad_cell T 0 cs ws ≡ some c → record { outcome = refused 15 c; outputs = out ∷ words ∷ [] } ≡ balance_call T f cs ws work out words
+      pub refuses_cell : (c : ℕ) → bad_cell T 0 cs ws ≡ Some c → record { outcome = refused 15 c; outputs = out ∷ words ∷ [] } ≡ balance_call T f cs ws work out words
       refuses_cell c h = sym (balance_refused T cs ws work out 15 c f words (λ o. cell_refused T 0 cs ws work o types lent c h))
 
-      module _ (ok : bad_cell T 0 cs ws ≡ none) where
+      module _ (ok : bad_cell T 0 cs ws ≡ None) where
         pub refuses_many : most_items < length cs / cell_width + length ws / 4 → record { outcome = refused 12 0; outputs = out ∷ words ∷ [] } ≡ balance_call T f cs ws work out words
         refuses_many h = sym (balance_many T types cs ws work out f words ok lent (omega (arith, items_are cs ws)))
 

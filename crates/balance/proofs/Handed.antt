@@ -1,7 +1,7 @@
 -- What accepted cells are: the cells of a tree whose starts and ends fit 32 bits, and what each of them says. Assumes nothing.
 use mathlib.Core.Path.{◌≡◌, refl, sym, ap, subst, ◌∙◌}
 use mathlib.Core.List.{List, [], append-nil}
-use mathlib.Core.Option.{some}
+use Rattle.std.specs.Prelude.{Some}
 use mathlib.Core.Logic.{inl}
 use Prim.Native.Nat.{ℕ, suc, ◌+◌, ◌*◌, ◌≤◌, ◌<◌}
 use native.Mathlib.Omega.{arith}
@@ -48,7 +48,7 @@ pub record Handed (cs ws : List ℕ) (n : ℕ) : Type 0 where
   pub top : ℕ
   pub len : ℕ
   pub kids : Trees
-  pub tree_is : handed_in cs ws ≡ tree (some top) 0 len kids nil
+  pub tree_is : handed_in cs ws ≡ tree (Some top) 0 len kids nil
   pub count : n ≡ suc (nodes kids)
   pub size : n * cell_width ≡ length cs
   pub words_are : packed (handed_in cs ws) ≡ ws
@@ -60,7 +60,7 @@ module _ (cs ws : List ℕ) (n : ℕ) (g : Given cs ws n) where
   kept = accepted_kept g.types 0 ws (short_of ws g.short) (omega arith) cs g.accepted
 
   abbrev whole : Trees
-  whole = tree (some kept.top) 0 kept.length kept.kids nil
+  whole = tree (Some kept.top) 0 kept.length kept.kids nil
 
   whole_is : handed_in cs ws ≡ whole
   unfolding handed_in

@@ -1,4 +1,3 @@
-pub mod Staging
 pub mod Sites
 pub mod Handed
 pub mod Noting

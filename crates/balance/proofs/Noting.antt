@@ -75,7 +75,7 @@ module _ (bs : List ℕ) where
         go (no e) (yes d) = noted_hit d
         go (no e) (no d) = ap (λ (l : List ℕ). get_or l k 0) (noted_some held x v e) ∙ get_or-set_other held (x - 1) k v 0 (λ o. omega arith) ∙ h
 
-module _ (cs ws : List ℕ) (n : ℕ) (g : Given cs ws n) where
+module _ {cs ws : List ℕ} {n : ℕ} (g : Given cs ws n) where
   abbrev bs : List ℕ
   bs = bases 0 (handed_in cs ws)
 
@@ -118,7 +118,7 @@ module _ (cs ws : List ℕ) (n : ℕ) (g : Given cs ws n) where
     links = λ j k l m e. absurd (omega arith);
   }
 
-  module _ (held₀ held : List ℕ) (i : ℕ) (s : Noting held₀ held i) where
+  module _ {held₀ held : List ℕ} {i : ℕ} (s : Noting held₀ held i) where
     -- so what is noted of cell k is right
     known : (k : ℕ) → k ≤ i → k < n → get_or held k 0 ≡ get_or bs k 0
     known k a b = go (h.site k b).reached
@@ -215,8 +215,8 @@ module _ (cs ws : List ℕ) (n : ℕ) (g : Given cs ws n) where
                   let z : j ≡ i = omega arith in
                   noted_hit bs once y u first-right k (wide k o) (y-is ∙ ap (λ (a : ℕ). cell_first cs a) (sym z) ∙ e.1)
 
-      pub noting_next : (held' : List ℕ) → held' ≡ links_noted cs held i → Noting held₀ held' (i + 1)
-      noting_next held' e = ⊎_elim tree_turn part_turn (h.site i l).own
+      pub noting_next : {held' : List ℕ} → held' ≡ links_noted cs held i → Noting held₀ held' (i + 1)
+      noting_next {held' = held'} e = ⊎_elim tree_turn part_turn (h.site i l).own
         where
           tree_turn : TreeAt cs ws bs us n i → Noting held₀ held' (i + 1)
           tree_turn t =
@@ -235,8 +235,8 @@ module _ (cs ws : List ℕ) (n : ℕ) (g : Given cs ws n) where
     pub noting_end : n ≤ i → Based held n (handed_in cs ws)
     noting_end l k m = known k (omega arith) m
 
-  pub noting_kept : (work held : List ℕ) (i : ℕ) → Noting (set work 0 0) held i → Same work held 0 0 n
-  noting_kept work held i s = record {
+  pub noting_kept : (work : List ℕ) {held : List ℕ} {i : ℕ} → Noting (set work 0 0) held i → Same work held 0 0 n
+  noting_kept work s = record {
     size = s.size ∙ length-set work 0 0;
     below = λ j a b. absurd (omega arith);
     above = λ j a. s.behind j a ∙ get_or-set_other work 0 j 0 0 (λ e. omega (arith, h.count));

@@ -28,7 +28,7 @@ pub address_some : (high x : ℕ) → (x ≡ 0 → ⊥) → address high x ≡ h
 unfolding address
 address_some high x e = rw (ne_eqb x 0 e)
 
-module _ (f : Bool) (held cs ws : List ℕ) (n high low i : ℕ) (b : Building f held cs ws n high low i) where
+module _ {f : Bool} {held cs ws : List ℕ} {n high low i : ℕ} (b : Building f held cs ws n high low i) where
   abbrev bs : List ℕ
   bs = bases 0 (handed_in cs ws)
 
@@ -46,7 +46,7 @@ module _ (f : Bool) (held cs ws : List ℕ) (n high low i : ℕ) (b : Building f
       let a : address high x ≡ high - (y + 1) * 10 = address_some high x (λ o. omega (arith, e.1)) ∙ omega (arith, e.1) in
       rw a (subst (Holds f held n (high - i * 10) low (high - (y + 1) * 10)) e.2.trees_at (b.built y (omega (arith, e.2.later)) e.2.within))
 
-module _ (f : Bool) (held cs ws : List ℕ) (n high low i : ℕ) (l : i < n) (b : Building f held cs ws n high low (i + 1)) where
+module _ {f : Bool} {held cs ws : List ℕ} {n high low : ℕ} (i : ℕ) (l : i < n) (b : Building f held cs ws n high low (i + 1)) where
   abbrev bs₁ : List ℕ
   bs₁ = bases 0 (handed_in cs ws)
 
@@ -64,8 +64,8 @@ module _ (f : Bool) (held cs ws : List ℕ) (n high low i : ℕ) (l : i < n) (b 
       (λ (t : PartAt cs ws bs₁ us₁ n i). omega (arith, b.based i l, t.start_is, t.small)) site.own
 
   pub next_in : cell_next cs i ≤ n
-  next_in = ⊎_elim (λ (t : TreeAt cs ws bs₁ us₁ n i). leads_in cs ws n b.given i (get_or bs₁ i 0) t.rest (cell_next cs i) t.next_is)
-      (λ (t : PartAt cs ws bs₁ us₁ n i). leads_in cs ws n b.given i (get_or bs₁ i 0) t.rest (cell_next cs i) t.next_is) site.own
+  next_in = ⊎_elim (λ (t : TreeAt cs ws bs₁ us₁ n i). leads_in b.given i (get_or bs₁ i 0) t.rest (cell_next cs i) t.next_is)
+      (λ (t : PartAt cs ws bs₁ us₁ n i). leads_in b.given i (get_or bs₁ i 0) t.rest (cell_next cs i) t.next_is) site.own
 
   -- a number names an address that can be read
   pub address_readable : (x : ℕ) → x ≤ n → Readable held (address high x)
@@ -87,7 +87,7 @@ module _ (f : Bool) (held cs ws : List ℕ) (n high low i : ℕ) (l : i < n) (b 
     tree_site = ⊎_elim (λ t. t) (λ (t : PartAt cs ws bs₁ us₁ n i). absurd (other t.kind_is)) site.own
 
     pub first_in : cell_first cs i ≤ n
-    first_in = leads_in cs ws n b.given i tree_site.start tree_site.kids (cell_first cs i) tree_site.first_is
+    first_in = leads_in b.given i tree_site.start tree_site.kids (cell_first cs i) tree_site.first_is
 
   -- A node more: all that was there stays.
   module _ (held' : List ℕ) (top r : ℕ) (top_is : top ≡ high - (i + 1) * 10) (s : Same held held' 0 top (top + 10)) (at : r ≡ top) where
@@ -117,17 +117,14 @@ module _ (f : Bool) (held cs ws : List ℕ) (n high low i : ℕ) (l : i < n) (b 
         go k m o (no e) =
             frame f held held' n (high - (i + 1) * 10) low (high - i * 10) low (omega arith) (omega arith) same (high - (k + 1) * 10) (get_or us₁ k nil) (b.built k (omega arith) o)
 
-  module _ (held' : List ℕ) (top start r : ℕ) (top_is : top ≡ high - (i + 1) * 10) (start_is : start ≡ get_or held i 0 + cell_position cs i)
-      (next : ℕ) (next_is : next ≡ address high (cell_next cs i)) where
-    below : high - (i + 1) * 10 ≡ top
-    below = sym top_is
-
-    pub pushed_part : (two : cell_kind cs i ≡ 2) (from : ℕ) → from ≡ low + cell_first cs i
+  module _ {held' : List ℕ} {top start next r : ℕ} (top_is : top ≡ high - (i + 1) * 10) (start_is : start ≡ get_or held i 0 + cell_position cs i)
+      (next_is : next ≡ address high (cell_next cs i)) where
+    pub pushed_part : cell_kind cs i ≡ 2 → {from : ℕ} → from ≡ low + cell_first cs i
         → PushedPart held held' top start (cell_length cs i) from (cell_count cs i) next r → Building f held' cs ws n high low i
-    pushed_part two from from_is p =
+    pushed_part two {from = from} from_is p =
         let t = part_site two in
         let starts : start ≡ t.start = omega (arith, start_is, b.based i l, t.start_is) in
-        let later : Holds f held n top low next t.rest = rw (next_is, top_is) (link_held f held cs ws n high low (i + 1) b i (get_or bs₁ i 0) t.rest (cell_next cs i) (omega arith) t.next_is) in
+        let later : Holds f held n top low next t.rest = rw (next_is, top_is) (link_held b i (get_or bs₁ i 0) t.rest (cell_next cs i) (omega arith) t.next_is) in
         let staged : Staged held low from t.held = record {
           above = omega (arith, from_is);
           within = omega (arith, from_is, t.inside, b.staged.within);
@@ -139,14 +136,14 @@ module _ (f : Bool) (held cs ws : List ℕ) (n high low i : ℕ) (l : i < n) (b 
         let new = p.holds f n low t.held t.rest (omega (arith, l)) (omega (arith, top_is, b.high_is)) (omega (arith, top_is, b.high_is, b.under)) t.count_is staged later in
         built_more held' top r top_is p.kept p.address (rw (t.here, ← starts, ← t.len_is) new)
 
-    pub pushed_tree : (other : cell_kind cs i ≡ 2 → ⊥) (first : ℕ) → first ≡ address high (cell_first cs i)
-        → PushedTree held held' top (kind_stored f (cell_kind cs i) (cell_id cs i)) (cell_id cs i) start (cell_length cs i) first next r → Building f held' cs ws n high low i
-    pushed_tree other first first_is p =
+    pub pushed_tree : (cell_kind cs i ≡ 2 → ⊥) → {first : ℕ} → first ≡ address high (cell_first cs i) → {k : ℕ} → k ≡ kind_stored f (cell_kind cs i) (cell_id cs i)
+        → PushedTree held held' top k (cell_id cs i) start (cell_length cs i) first next r → Building f held' cs ws n high low i
+    pushed_tree other {first = first} first_is kind_is p =
         let t = tree_site other in
         let starts : start ≡ t.start = omega (arith, start_is, b.based i l, t.start_is) in
-        let later : Holds f held n top low next t.rest = rw (next_is, top_is) (link_held f held cs ws n high low (i + 1) b i (get_or bs₁ i 0) t.rest (cell_next cs i) (omega arith) t.next_is) in
-        let inner : Holds f held n top low first t.kids = rw (first_is, top_is) (link_held f held cs ws n high low (i + 1) b i t.start t.kids (cell_first cs i) (omega arith) t.first_is) in
-        let new = p.holds f n low t.type t.kids t.rest (omega (arith, l)) (omega (arith, top_is, b.high_is)) (omega (arith, top_is, b.high_is, b.under)) (kind_as f t.type t.kind_is t.id_is) t.id_is inner later in
+        let later : Holds f held n top low next t.rest = rw (next_is, top_is) (link_held b i (get_or bs₁ i 0) t.rest (cell_next cs i) (omega arith) t.next_is) in
+        let inner : Holds f held n top low first t.kids = rw (first_is, top_is) (link_held b i t.start t.kids (cell_first cs i) (omega arith) t.first_is) in
+        let new = p.holds f n low t.type t.kids t.rest (omega (arith, l)) (omega (arith, top_is, b.high_is)) (omega (arith, top_is, b.high_is, b.under)) (kind_is ∙ kind_as f t.type t.kind_is t.id_is) t.id_is inner later in
         built_more held' top r top_is p.kept p.address (rw (t.here, ← starts, ← t.len_is) new)
 
 -- before the first node
@@ -162,10 +159,3 @@ building_start f held₁ held₂ cs ws n high low g w b s e u m fits = record {
   staged = staged_frame f held₁ held₂ 0 0 low 0 low (omega arith) (omega arith) (same_less held₁ held₂ 0 0 n 0 0 low (omega arith) (omega arith) (omega arith) s) low ws w;
   built = λ k l o. absurd (omega arith);
 }
-
--- one cell more is to be added, or none is left
-pub building_one_less : (f : Bool) (held cs ws : List ℕ) (n high low i : ℕ) → 0 < i → Building f held cs ws n high low i → Building f held cs ws n high low (i - 1 + 1)
-building_one_less f held cs ws n high low i l b = let z : i - 1 + 1 ≡ i = omega arith in rw z b
-
-pub building_none_left : (f : Bool) (held cs ws : List ℕ) (n high low i : ℕ) → i ≤ 0 → Building f held cs ws n high low i → Building f held cs ws n high low 0
-building_none_left f held cs ws n high low i l b = let z : i ≡ 0 = omega arith in subst (λ (k : ℕ). Building f held cs ws n high low k) z b

@@ -2,7 +2,7 @@
 use mathlib.Core.Path.{◌≡◌, refl, sym, ap, subst, ◌∙◌}
 use mathlib.Core.Bool.{Bool}
 use mathlib.Core.List.{List}
-use mathlib.Core.Option.{Option, none, some}
+use Rattle.std.specs.Prelude.{Option, None, Some}
 use mathlib.Core.Logic.{⊎_elim}
 use Prim.Native.Nat.{ℕ, ◌+◌, ◌-◌, ◌*◌, ◌/◌, ◌≤◌, ◌<◌}
 use native.Mathlib.Omega.{arith}
@@ -25,7 +25,7 @@ use Rattle.balance.proofs.Pushing.{link_held}
 use Rattle.balance.proofs.Typing.{kind_as, none_kind}
 
 divides : (f : Bool) (t : Option ℕ) (s l : ℕ) (kids rest : Trees) → 8 < siblings kids
-    → balanced f (tree t s l kids rest) ≡ balance (in_set f t) (in_set f none) s l kids ⊕ rest
+    → balanced f (tree t s l kids rest) ≡ balance (in_set f t) (in_set f None) s l kids ⊕ rest
 unfolding balanced
 divides f t s l kids rest h = rw (lt-leb (siblings kids) 8 h, balanced)
 
@@ -36,7 +36,7 @@ root_live f w base top low n nil m h = absurd (omega arith)
 root_live f w base top low n (tree t s l kids rest) m h = ((λ e. omega (arith, h.node.live)), omega (arith, h.node.below))
 root_live f w base top low n (part s l ws rest) m h = ((λ e. omega (arith, h.node.live)), omega (arith, h.node.below))
 
-module _ (f : Bool) (held cs ws : List ℕ) (n high low : ℕ) (b : Building f held cs ws n high low 0) (room : n * 35 ≤ low) where
+module _ {f : Bool} {held cs ws : List ℕ} {n high low : ℕ} (b : Building f held cs ws n high low 0) (room : n * 35 ≤ low) where
   abbrev bs : List ℕ
   bs = bases 0 (handed_in cs ws)
 
@@ -47,7 +47,7 @@ module _ (f : Bool) (held cs ws : List ℕ) (n high low : ℕ) (b : Building f h
   h = handed cs ws n b.given
 
   abbrev whole : Trees
-  whole = tree (some h.top) 0 h.len h.kids nil
+  whole = tree (Some h.top) 0 h.len h.kids nil
 
   first_tree : get_or us 0 nil ≡ whole
   unfolding onwards
@@ -67,7 +67,7 @@ module _ (f : Bool) (held cs ws : List ℕ) (n high low : ℕ) (b : Building f h
       as_tree : TreeAt cs ws bs us n 0 → Top
       as_tree t =
           let e : tree t.type t.start t.len t.kids t.rest ≡ whole = sym t.here ∙ first_tree in
-          let types : t.type ≡ some h.top = cc in
+          let types : t.type ≡ Some h.top = cc in
           let starts : t.start ≡ 0 = cc in
           let lens : t.len ≡ h.len = cc in
           let inner : t.kids ≡ h.kids = cc in
@@ -91,7 +91,7 @@ module _ (f : Bool) (held cs ws : List ℕ) (n high low : ℕ) (b : Building f h
   ten = omega (arith, b.high_is, h.count)
 
   pub first_in : get_or cs 4 0 ≤ n
-  first_in = leads_in cs ws n b.given 0 0 h.kids (get_or cs 4 0) top.leads
+  first_in = leads_in b.given 0 0 h.kids (get_or cs 4 0) top.leads
 
   root_held : Holds f held n high low (high - 10) (handed_in cs ws)
   root_held =
@@ -103,15 +103,15 @@ module _ (f : Bool) (held cs ws : List ℕ) (n high low : ℕ) (b : Building f h
   kids_held : Holds f held n high low (address high (get_or cs 4 0)) h.kids
   kids_held =
       let a : high - 0 * 10 ≡ high = omega arith in
-      subst (λ (t : ℕ). Holds f held n t low (address high (get_or cs 4 0)) h.kids) a (link_held f held cs ws n high low 0 b 0 0 h.kids (get_or cs 4 0) (omega arith) top.leads)
+      subst (λ (t : ℕ). Holds f held n t low (address high (get_or cs 4 0)) h.kids) a (link_held b 0 0 h.kids (get_or cs 4 0) (omega arith) top.leads)
 
   -- the balanced tree: how many cells, which words
   few : nodes (balanced f (handed_in cs ws)) ≤ 2 * nodes h.kids + 1
-  few = rw h.tree_is (few_balanced f (some h.top) 0 h.len h.kids)
+  few = rw h.tree_is (few_balanced f (Some h.top) 0 h.len h.kids)
 
   some_node : 1 ≤ nodes (balanced f (handed_in cs ws))
   unfolding nodes
-  some_node = rw (h.tree_is, balanced_is f (some h.top) 0 h.len h.kids nil) (omega arith)
+  some_node = rw (h.tree_is, balanced_is f (Some h.top) 0 h.len h.kids nil) (omega arith)
 
   words_same : packed (balanced f (handed_in cs ws)) ≡ ws
   words_same = packed_balanced f (handed_in cs ws) ∙ h.words_are
@@ -136,15 +136,15 @@ module _ (f : Bool) (held cs ws : List ℕ) (n high low : ℕ) (b : Building f h
 
   pub left_standing : get_or cs 5 0 ≤ 8 → Standing held high (high - 10) (balanced f (handed_in cs ws))
   left_standing m =
-      let e : balanced f (handed_in cs ws) ≡ handed_in cs ws = ap (balanced f) h.tree_is ∙ untouched f (some h.top) 0 h.len h.kids nil (omega (arith, top.count_is)) ∙ sym h.tree_is in
+      let e : balanced f (handed_in cs ws) ≡ handed_in cs ws = ap (balanced f) h.tree_is ∙ untouched f (Some h.top) 0 h.len h.kids nil (omega (arith, top.count_is)) ∙ sym h.tree_is in
       standing held high (high - 10) refl (subst (Holds f held n high low (high - 10)) (sym e) root_held) (omega (arith, few, h.count, room, b.high_is))
 
-  module _ (many : 8 < get_or cs 5 0) (kids : ℕ) (kids_is : kids ≡ address high (get_or cs 4 0)) where
+  module _ (many : 8 < get_or cs 5 0) {kids : ℕ} (kids_is : kids ≡ address high (get_or cs 4 0)) where
     row_held : Holds f held n high low kids (h.kids ⊕ nil)
     row_held = rw (⊕-nil h.kids, kids_is) kids_held
 
-    row_small : total (in_set f none) h.kids < n
-    row_small = omega (arith, total_nodes (in_set f none) h.kids, h.count)
+    row_small : total (in_set f None) h.kids < n
+    row_small = omega (arith, total_nodes (in_set f None) h.kids, h.count)
 
     abbrev row : Row held kids (get_or cs 5 0) 3 0
     unfolding kind id_word
@@ -152,7 +152,7 @@ module _ (f : Bool) (held cs ws : List ℕ) (n high low : ℕ) (b : Building f h
       base = n;
       top = high;
       low = low;
-      type = in_set f none;
+      type = in_set f None;
       us = h.kids;
       tail = nil;
       inside = omega (arith, b.under, b.inside);
@@ -167,21 +167,21 @@ module _ (f : Bool) (held cs ws : List ℕ) (n high low : ℕ) (b : Building f h
     pub row_there : Row held kids (get_or cs 5 0) 3 0
     row_there = row
 
-    pub row_total : (r : ℕ) → ((p : Row held kids (get_or cs 5 0) 3 0) → r ≡ total p.type p.us) → r ≡ total (in_set f none) h.kids
+    pub row_total : {r : ℕ} → ((p : Row held kids (get_or cs 5 0) 3 0) → r ≡ total p.type p.us) → r ≡ total (in_set f None) h.kids
     unfolding row
-    row_total r f = f row
+    row_total f = f row
 
-    module _ (size okd : ℕ) (size_is : size ≡ total (in_set f none) h.kids) (kind_is : okd ≡ kind_stored f 1 (get_or cs 1 0)) where
+    module _ {size okd : ℕ} (size_is : size ≡ total (in_set f None) h.kids) (kind_is : okd ≡ kind_stored f 1 (get_or cs 1 0)) where
       abbrev ready : BalanceReady held high low kids (get_or cs 5 0) 3 0 okd (get_or cs 1 0) size 0
       unfolding kind id_word
       ready = record {
-        own = some h.top;
-        own_kind = kind_is ∙ kind_as f (some h.top) refl top.id_is;
+        own = Some h.top;
+        own_kind = kind_is ∙ kind_as f (Some h.top) refl top.id_is;
         own_id = top.id_is;
         row = record {
           base = n;
           low = low;
-          type = in_set f none;
+          type = in_set f None;
           us = h.kids;
           tail = nil;
           rest = nil;
@@ -207,16 +207,16 @@ module _ (f : Bool) (held cs ws : List ℕ) (n high low : ℕ) (b : Building f h
       pub range_ready : BalanceReady held high low kids (get_or cs 5 0) 3 0 okd (get_or cs 1 0) size 0
       range_ready = ready
 
-      pub divided_standing : (held' : List ℕ) (rtop rnode : ℕ) → Balanced held held' high low kids (get_or cs 5 0) 3 0 okd (get_or cs 1 0) 0 (get_or cs 3 0) size 0 rtop rnode
+      pub divided_standing : {held' : List ℕ} {rtop rnode : ℕ} → Balanced held held' high low kids (get_or cs 5 0) 3 0 okd (get_or cs 1 0) 0 (get_or cs 3 0) size 0 rtop rnode
           → Standing held' rtop rnode (balanced f (handed_in cs ws))
       unfolding ready
-      divided_standing held' rtop rnode p =
-          let e : balance (in_set f (some h.top)) (in_set f none) 0 (get_or cs 3 0) h.kids ⊕ nil ≡ balanced f (handed_in cs ws) =
-          ap (λ (l : ℕ). balance (in_set f (some h.top)) (in_set f none) 0 l h.kids ⊕ nil) top.len_is
-          ∙ sym (ap (balanced f) h.tree_is ∙ divides f (some h.top) 0 h.len h.kids nil (omega (arith, top.count_is))) in
+      divided_standing {held' = held'} {rtop = rtop} {rnode = rnode} p =
+          let e : balance (in_set f (Some h.top)) (in_set f None) 0 (get_or cs 3 0) h.kids ⊕ nil ≡ balanced f (handed_in cs ws) =
+          ap (λ (l : ℕ). balance (in_set f (Some h.top)) (in_set f None) 0 l h.kids ⊕ nil) top.len_is
+          ∙ sym (ap (balanced f) h.tree_is ∙ divides f (Some h.top) 0 h.len h.kids nil (omega (arith, top.count_is))) in
           standing held' rtop rnode p.kept.size (subst (Holds f held' n rtop low rnode) e (p.holds ready)) (omega (arith, p.used, few, row_small, size_is, h.count, room, b.high_is))
 
 -- up to 8 children stay as they are; `low` stands in a premise, where a tactic finds it
 pub left_alone : (f : Bool) (held cs ws : List ℕ) (high : ℕ) → (low : ℕ) × (Building f held cs ws (length cs / 7) high low 0 × (length cs / 7 * 35 ≤ low)) → get_or cs 5 0 ≤ 8
     → Standing held high (high - 10) (balanced f (handed_in cs ws))
-left_alone f held cs ws high b m = left_standing f held cs ws (length cs / 7) high b.0 b.1.0 b.1.1 m
+left_alone f held cs ws high b m = left_standing b.1.0 b.1.1 m

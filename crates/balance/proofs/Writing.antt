@@ -1,13 +1,13 @@
 -- 12, 13, or the tree is written out: the counts in its node decide. Assumes nothing.
-use mathlib.Core.Path.{◌≡◌, refl, ◌∙◌}
+use mathlib.Core.Path.{◌≡◌, ◌∙◌}
 use mathlib.Core.List.{List, [], ◌∷◌}
 use Prim.Native.Nat.{ℕ, ◌*◌, ◌/◌, ◌≤◌, ◌<◌}
 use native.Mathlib.Omega.{arith}
 use lib.ListN.{length}
 use Rattle.words.specs.Outcome.{accepted, refused}
-use Rattle.tree.specs.Trees.{Trees, nil, tree, part, nodes}
+use Rattle.tree.specs.Trees.{Trees, nodes}
 use Rattle.tree.specs.Cells.{cell_width, packed}
-use Rattle.store.specs.Store.{told, Writable, Wrote}
+use Rattle.store.specs.Store.{told, Wrote}
 use Rattle.store.proofs.Frame.{tells_cells, tells_words}
 use Rattle.rules.proofs.CallLaws.{few_cells, few_words, enough}
 use Rattle.balance.specs.Steps.{Standing, settled_tree}
@@ -15,10 +15,6 @@ use Rattle.balance.specs.Steps.{Standing, settled_tree}
 module _ (held : List ℕ) (top root : ℕ) (ts : Trees) (s : Standing held top root ts) (out words : List ℕ) (n : ℕ) (n-told : n ≡ told held root 6) where
   n_is : n ≡ nodes ts
   n_is = n-told ∙ tells_cells s.none_first held s.base top s.low root ts s.holds ∙ omega (arith, s.few)
-
-  pub refuses_cells : length out / cell_width < n → record { outcome = refused 12 0; outputs = out ∷ words ∷ [] } ≡ settled_tree ts out words
-  unfolding settled_tree
-  refuses_cells h = rw (few_cells (nodes ts) (length (packed ts)) (length out) (length words) (omega (arith, s.few)) (omega (arith, n_is)))
 
   module _ (fits : n ≤ length out / cell_width) (m : ℕ) (m-told : m ≡ told held root 7) where
     m_is : m ≡ length (packed ts)
@@ -32,21 +28,6 @@ module _ (held : List ℕ) (top root : ℕ) (ts : Trees) (s : Standing held top 
     refuses_words h = rw (few_words (nodes ts) (length (packed ts)) (length out) (length words) (omega (arith, s.few)) cells_fit (omega (arith, m_is)))
 
     module _ (enough-words : m ≤ length words) where
-      pub writable : Writable held top root (length out) (length words)
-      writable = record {
-        none_first = s.none_first;
-        base = s.base;
-        low = s.low;
-        trees = ts;
-        holds = s.holds;
-        free = s.free;
-        inside = s.inside;
-        cells_fit = cells_fit;
-        words_fit = omega (arith, m_is);
-        few = s.few;
-        narrow = s.narrow;
-      }
-
       pub writes : (out' words' : List ℕ) → Wrote held top root 0 out out' words words' → record { outcome = accepted (n ∷ m ∷ []); outputs = out' ∷ words' ∷ [] } ≡ settled_tree ts out words
       unfolding settled_tree
       writes out' words' w =
@@ -57,19 +38,6 @@ module _ (held : List ℕ) (top root : ℕ) (ts : Trees) (s : Standing held top 
             m_is,
             enough (nodes ts) (length (packed ts)) (length out) (length words) (omega (arith, s.few)) cells_fit (omega (arith, m_is)),
           )
-
--- k, or 0 of an empty list
-abbrev pub any_or_none : Trees → ℕ → ℕ
-any_or_none nil k = 0
-any_or_none (tree t s l kids rest) k = k
-any_or_none (part s l ws rest) k = k
-
--- An empty list has no nodes. A tactic that is given this looks at the first node of a list, which tells how many there are.
-pub nodes_any : (ts : Trees) → nodes ts ≡ any_or_none ts (nodes ts)
-unfolding nodes
-nodes_any nil = refl
-nodes_any (tree t s l kids rest) = refl
-nodes_any (part s l ws rest) = refl
 
 -- the slice has no space for the cells
 pub cells_refused : (ts : Trees) (out words : List ℕ) → nodes ts < 4294967295 → length out / cell_width < nodes ts

@@ -1,6 +1,6 @@
 -- What the steps of balance promise each other: for the contracts of private functions only.
 use Rattle.std.specs.Prelude.{◌≡◌, Bool, cond, List, [], ◌∷◌, ◌++◌, ℕ, ◌+◌, ◌-◌, ◌*◌, ◌/◌, ◌≤◌, ◌<◌, eqb, length, get_or, set}
-use Rattle.std.proofs.Math.Option.{none}
+use Rattle.std.specs.Prelude.{None}
 use Rattle.words.specs.Outcome.{Result, settled}
 use Rattle.words.specs.Words.{front}
 use Rattle.tree.specs.Trees.{Trees, nil, tree, part, nodes}
@@ -24,7 +24,7 @@ onwards (part s l ws rest) = part s l ws rest ∷ onwards rest
 -- n accepted cells and their packed words
 pub record Given (cs ws : List ℕ) (n : ℕ) : Type 0 where
   pub types : ℕ
-  pub accepted : bad_cell types 0 cs ws ≡ none
+  pub accepted : bad_cell types 0 cs ws ≡ None
   pub short : (j : ℕ) → get_or ws j 0 < 65536
   pub whole : n ≡ length cs / cell_width
 

@@ -6,17 +6,18 @@
 ghost use Rattle.std.specs.Prelude.{◌≡◌, List, [], ◌∷◌, ℕ, ◌+◌, ◌*◌, ◌/◌, ◌<◌, ◌≤◌};
 ghost use lib.ListN.{length};
 ghost use Rattle.tree.specs.Cells.{cell_width};
+ghost use Rattle.words.specs.Refusal.{answered};
 ghost use Rattle.tree.specs.Trees.{Trees};
+ghost use Rattle.tree.specs.Written.{written_counts};
 ghost use Rattle.tree.specs.Balance.{balanced};
 ghost use Rattle.store.specs.Store.{Staged, Same, Readable, PushedTree, node_width};
 ghost use Rattle.rules.specs.Calls.{handed_in, balance_call};
-ghost use Rattle.balance.specs.Answer.{balanced_outcome};
 ghost use Rattle.balance.specs.Steps.{Given, noted, Linked, links_noted, Based, kind_stored, address, Building, Standing, settled_tree, Lent};
 
-use balance_core::Made;
-use store::{FIRST_OF_SET, NODE_CELLS, NODE_WIDTH, NODE_WORDS, NONE};
-use tree::{CELL_WIDTH, COUNT, FIRST, ID, KIND, LENGTH, NEXT, POSITION};
-use words::RECORD_WIDTH;
+use balance_core::{Made, Parent};
+use store::{FIRST_OF_SET, NODE_CELLS, NODE_WIDTH, NODE_WORDS, NONE, NodeType};
+use tree::{CELL_WIDTH, COUNT, FIRST, ID, KIND, LENGTH, NEXT, POSITION, Written};
+use words::{RECORD_WIDTH, Refusal};
 
 // Puts the packed words below the place `end`, from the last one back: where the first one stands.
 fn stage_words(words: &[u16], work: &mut [u32], end: u32) -> u32
@@ -26,23 +27,21 @@ fn stage_words(words: &[u16], work: &mut [u32], end: u32) -> u32
     ensures words_value { result + length words.now ≡ end }
 {
     let mut low = end;
-    let mut i = words.len();
-    while 0 < i {
-        i -= 1;
+    for i in (0..words.len()).rev() {
         low = store::stage(work, low, words[i]);
     }
     low
 }
 
 // Notes the start of the parent of cell x, counted from 1, unless x names none.
+#[tactic(auto, unfolding(crate::specs::Steps::noted))]
 fn note(work: &mut [u32], x: u32, base: u32)
     requires { x ≤ length work.old }
     ensures { work.new ≡ noted work.old x base }
 {
-    if x == 0 {
-        return;
+    if x != 0 {
+        work[x as usize - 1] = base;
     }
-    work[words::index(x) - 1] = base;
 }
 
 // Notes what the cells that cell i names by next and by first need.
@@ -70,15 +69,13 @@ fn note_bases(cells: &[u32], work: &mut [u32])
     ensures same { Same work.old work.new 0 0 (length cells.now / cell_width) }
 {
     work[0] = 0;
-    let n = cells.len() / CELL_WIDTH;
-    let mut i: usize = 0;
-    while i < n {
+    for i in 0..cells.len() / CELL_WIDTH {
         note_links(cells, i, work);
-        i += 1;
     }
 }
 
 // The address of the node of cell x, counted from 1; 0 for none.
+#[tactic(auto, unfolding(crate::specs::Steps::address))]
 fn node_of(high: u32, x: u32) -> u32
     requires { x * node_width ≤ high }
     ensures { result ≡ address high x }
@@ -93,37 +90,10 @@ fn node_of(high: u32, x: u32) -> u32
 fn stored_kind(none_first: bool, kind: u32, id: u32) -> u32
     ensures { result ≡ kind_stored none_first kind id }
 {
-    if !none_first {
-        return kind;
+    if none_first && kind == 1 && id == 0 {
+        return FIRST_OF_SET;
     }
-    if kind != 1 {
-        return kind;
-    }
-    if id != 0 {
-        return kind;
-    }
-    FIRST_OF_SET
-}
-
-// A tree of a cell's kind and id over the list `kids`, before the list `next`.
-fn push_typed(
-    none_first: bool,
-    work: &mut [u32],
-    top: u32,
-    kind: u32,
-    id: u32,
-    start: u32,
-    length: u32,
-    kids: u32,
-    next: u32,
-) -> u32
-    requires node_width_bound { top + node_width ≤ lib.ListN.length work.old }
-    requires readable { Readable work.old kids }
-    requires readable_2 { Readable work.old next }
-    ensures { PushedTree work.old work.new top (kind_stored none_first kind id) id start length kids next result }
-{
-    let own_kind = stored_kind(none_first, kind, id);
-    store::push_tree(work, top, own_kind, id, start, length, kids, next)
+    kind
 }
 
 // Adds the node of cell i before those of the cells after it.
@@ -148,12 +118,15 @@ fn push_cell(none_first: bool, cells: &[u32], i: usize, high: u32, low: u32, wor
         return;
     }
     let first = node_of(high, cells[i * CELL_WIDTH + FIRST]);
-    push_typed(
-        none_first,
+    let id = cells[i * CELL_WIDTH + ID];
+    let own = NodeType {
+        kind: stored_kind(none_first, cells[i * CELL_WIDTH + KIND], id),
+        id,
+    };
+    store::push_tree(
         work,
         top,
-        cells[i * CELL_WIDTH + KIND],
-        cells[i * CELL_WIDTH + ID],
+        own,
         start,
         cells[i * CELL_WIDTH + LENGTH],
         first,
@@ -166,9 +139,7 @@ fn push_cells(none_first: bool, cells: &[u32], high: u32, low: u32, work: &mut [
     requires { (ws : List ℕ) × Building none_first work.old cells.now ws (length cells.now / cell_width) high low (length cells.now / cell_width) }
     ensures { (ws : List ℕ) → Building none_first work.old cells.now ws (length cells.now / cell_width) high low (length cells.now / cell_width) → Building none_first work.new cells.now ws (length cells.now / cell_width) high low 0 }
 {
-    let mut i = cells.len() / CELL_WIDTH;
-    while 0 < i {
-        i -= 1;
+    for i in (0..cells.len() / CELL_WIDTH).rev() {
         push_cell(none_first, cells, i, high, low, work);
     }
 }
@@ -188,41 +159,41 @@ fn rebuild(none_first: bool, cells: &[u32], high: u32, low: u32, work: &mut [u32
         };
     }
     let kids = node_of(high, cells[FIRST]);
-    let size = balance_core::row_size(&*work, kids, count, NONE, 0);
-    let own = balance_core::Parent {
-        kind: stored_kind(none_first, 1, cells[ID]),
-        id: cells[ID],
+    let size = balance_core::row_size(work, kids, count, NONE);
+    let id = cells[ID];
+    let parent = Parent {
+        own: NodeType {
+            kind: stored_kind(none_first, 1, id),
+            id,
+        },
         start: 0,
         length: cells[LENGTH],
     };
-    balance_core::balance_range(work, high, low, kids, count, size, NONE, 0, own, 0)
+    balance_core::balance_range(work, high, low, kids, count, size, NONE, parent, 0)
 }
 
-// What the call answers.
-#[derive(Clone, Copy)]
-pub enum Balanced {
-    // The result stands in the outputs: how many cells and packed words.
-    Cells(usize, usize),
-    // Document 01's number, and the place.
-    Refused(u32, usize),
-}
-
-// 12, 13, or the tree is written out.
-#[tactic(auto, using(crate::proofs::Writing::cells_refused, crate::proofs::Writing::nodes_any))]
-fn write_out(work: &mut [u32], top: u32, root: u32, out: &mut [u32], packed: &mut [u16]) -> Balanced
+// `LittleCells`, `LittleWords`, or the tree is written out.
+#[tactic(auto, using(crate::proofs::Writing::cells_refused, store::proofs::Counts::nodes_any))]
+fn write_out(
+    work: &mut [u32],
+    top: u32,
+    root: u32,
+    out: &mut [u32],
+    packed: &mut [u16],
+) -> Result<Written, Refusal>
     requires { (ts : Trees) × Standing work.old top root ts }
-    ensures { (ts : Trees) → Standing work.old top root ts → record { outcome = balanced_outcome result; outputs = out.new ∷ packed.new ∷ [] } ≡ settled_tree ts out.old packed.old }
+    ensures { (ts : Trees) → Standing work.old top root ts → record { outcome = answered written_counts result; outputs = out.new ∷ packed.new ∷ [] } ≡ settled_tree ts out.old packed.old }
 {
-    let cells = words::index(store::tell(&*work, root, NODE_CELLS));
-    let words = words::index(store::tell(&*work, root, NODE_WORDS));
+    let cells = store::tell(work, root, NODE_CELLS) as usize;
+    let words = store::tell(work, root, NODE_WORDS) as usize;
     if out.len() / CELL_WIDTH < cells {
-        return Balanced::Refused(12, 0);
+        return Err(Refusal::LittleCells);
     }
     if packed.len() < words {
-        return Balanced::Refused(13, 0);
+        return Err(Refusal::LittleWords);
     }
     store::write_cells(work, top, root, 0, out, packed);
-    Balanced::Cells(cells, words)
+    Ok(Written { cells, words })
 }
 
 // Balance of accepted cells. Of the work slice the first 96 × items + 96 words are used: at their end the packed words, in front one
@@ -234,9 +205,9 @@ fn balance_accepted(
     work: &mut [u32],
     out: &mut [u32],
     packed: &mut [u16],
-) -> Balanced
+) -> Result<Written, Refusal>
     requires { Lent cells.now words.now (length work.old) }
-    ensures { record { outcome = balanced_outcome result; outputs = out.new ∷ packed.new ∷ [] } ≡ settled_tree (balanced none_first (handed_in cells.now words.now)) out.old packed.old }
+    ensures { record { outcome = answered written_counts result; outputs = out.new ∷ packed.new ∷ [] } ≡ settled_tree (balanced none_first (handed_in cells.now words.now)) out.old packed.old }
 {
     let n = cells.len() / CELL_WIDTH;
     let end = ((n + words.len() / RECORD_WIDTH) * 96 + 96) as u32;
@@ -251,7 +222,7 @@ fn balance_accepted(
 // The most items whose 96 × items + 96 words of work 32-bit words can name.
 const MOST_ITEMS: usize = 44739241;
 
-// Balance: 1, 11, 15, 12, 13; then the cells and words of the balanced tree. Where place 0 of the set is none, a cell of kind 1 with
+// Balance: `ManyTypes`, `LittleWork`, `Cell`, `LittleCells`, `LittleWords`; then the cells and words of the balanced tree. Where place 0 of the set is none, a cell of kind 1 with
 // id 0 counts as one of kind 3 wherever types are compared.
 pub fn balance(
     types: u32,
@@ -261,20 +232,20 @@ pub fn balance(
     work: &mut [u32],
     out: &mut [u32],
     packed: &mut [u16],
-) -> Balanced
-    ensures { record { outcome = balanced_outcome result; outputs = out.new ∷ packed.new ∷ [] } ≡ balance_call types none_first cells.now words.now (length work.old) out.old packed.old }
+) -> Result<Written, Refusal>
+    ensures { record { outcome = answered written_counts result; outputs = out.new ∷ packed.new ∷ [] } ≡ balance_call types none_first cells.now words.now (length work.old) out.old packed.old }
 {
     if 65536 < types {
-        return Balanced::Refused(1, 0);
+        return Err(Refusal::ManyTypes);
     }
-    if cells::too_little_work(cells, words, &*work) {
-        return Balanced::Refused(11, 0);
+    if cells::too_little_work(cells, words, work) {
+        return Err(Refusal::LittleWork);
     }
-    if let words::Found::At(at) = cells::tree_check(cells, words, types, 0, work) {
-        return Balanced::Refused(15, at);
+    if let Some(at) = cells::tree_check(cells, words, types, 0, work) {
+        return Err(Refusal::Cell(at));
     }
     if MOST_ITEMS < cells.len() / CELL_WIDTH + words.len() / RECORD_WIDTH {
-        return Balanced::Refused(12, 0);
+        return Err(Refusal::LittleCells);
     }
     balance_accepted(none_first, cells, words, work, out, packed)
 }

@@ -1,5 +1,5 @@
 -- A tree copied before another list. Assumes nothing.
-use mathlib.Core.Path.{◌≡◌, refl, sym, ap, ◌∙◌}
+use mathlib.Core.Path.{◌≡◌, refl, sym, ◌∙◌}
 use mathlib.Core.Bool.{Bool}
 use mathlib.Core.List.{List}
 use Prim.Native.Nat.{ℕ, ◌+◌, ◌≤◌}
@@ -19,11 +19,11 @@ inside_node f w base top low n nil m p h = absurd (omega arith)
 inside_node f w base top low n (tree u s l kids rest) m p h = omega (arith, h.node.below)
 inside_node f w base top low n (part s l ws rest) m p h = omega (arith, h.node.below)
 
-pub kids_node : (f : Bool) (w : List ℕ) (base top low n : ℕ) (ts : Trees) → top ≤ length w → 1 ≤ siblings ts → Holds f w base top low n ts → (get_or w (n + 0) 0 ≡ 2 → ⊥) → Readable w (get_or w (n + 4) 0)
+pub kids_node : (f : Bool) (w : List ℕ) (base top low n : ℕ) (ts : Trees) → top ≤ length w → 1 ≤ siblings ts → Holds f w base top low n ts → (get_or w n 0 ≡ 2 → ⊥) → Readable w (get_or w (n + 4) 0)
 unfolding siblings
 kids_node f w base top low n nil m p h k = absurd (omega arith)
 kids_node f w base top low n (tree u s l kids rest) m p h k = readable f w base top low _ kids m h.first
-kids_node f w base top low n (part s l ws rest) m p h k = let z : n + 0 ≡ n = omega arith in absurd (k (rw z h.node.kind_at))
+kids_node f w base top low n (part s l ws rest) m p h k = absurd (k h.node.kind_at)
 
 module _ {w : List ℕ} {top node next : ℕ} (p : CopyReady w top node next) where
   some_here : 1 ≤ siblings (p.first ⊕ p.tail)
@@ -38,18 +38,15 @@ module _ {w : List ℕ} {top node next : ℕ} (p : CopyReady w top node next) wh
   pub copy_onto : Readable w next
   copy_onto = readable p.none_first w p.base top p.low next p.rest (omega (arith, p.room, p.inside)) p.onto
 
-  pub copy_kids : {kd a : ℕ} → kd ≡ get_or w (node + 0) 0 → a ≡ get_or w (node + 4) 0 → (kd ≡ 2 → ⊥) → Readable w a
+  pub copy_kids : {kd a : ℕ} → kd ≡ get_or w node 0 → a ≡ get_or w (node + 4) 0 → (kd ≡ 2 → ⊥) → Readable w a
   copy_kids e f k =
       rw f (kids_node p.none_first w p.base top p.low node (p.first ⊕ p.tail) (omega (arith, p.room, p.inside)) some_here p.holds (λ x. k (e ∙ x)))
 
   pub copy_fits : top + 10 ≤ 4294967295
   copy_fits = omega (arith, p.room, p.fits)
 
-first_word : (w : List ℕ) (node : ℕ) → get_or w (node + 0) 0 ≡ get_or w node 0
-first_word w node = let z : node + 0 ≡ node = omega arith in ap (λ (j : ℕ). get_or w j 0) z
-
 -- the words of a node, as the code reads them
-module _ {w : List ℕ} {node kd i s l a : ℕ} (ek : kd ≡ get_or w (node + 0) 0) (ei : i ≡ get_or w (node + 1) 0) (es : s ≡ get_or w (node + 2) 0)
+module _ {w : List ℕ} {node kd i s l a : ℕ} (ek : kd ≡ get_or w node 0) (ei : i ≡ get_or w (node + 1) 0) (es : s ≡ get_or w (node + 2) 0)
     (el : l ≡ get_or w (node + 3) 0) (ea : a ≡ get_or w (node + 4) 0) where
   pub copied_tree : (kd ≡ 2 → ⊥) → {w' : List ℕ} {top next r : ℕ} → PushedTree w w' top kd i s l a next r → Copied w w' top node next (top + 10) r
   unfolding siblings ◌⊕◌
@@ -58,13 +55,13 @@ module _ {w : List ℕ} {node kd i s l a : ℕ} (ek : kd ≡ get_or w (node + 0)
       go : (p : CopyReady w top node next) (first : Trees) → siblings first ≡ 1 → Holds p.none_first w p.base top p.low node (first ⊕ p.tail)
           → Holds p.none_first w' p.base (top + 10) p.low r (first ⊕ p.rest)
       go p nil one h = absurd (omega arith)
-      go p (part s' l' ws more) one h = absurd (k (ek ∙ first_word w node ∙ h.node.kind_at))
+      go p (part s' l' ws more) one h = absurd (k (ek ∙ h.node.kind_at))
       go p (tree u s' l' ks more) one h =
           let z : more ≡ nil = siblings_none more (omega arith) in
           let fs : s' ≡ s = sym (es ∙ h.node.start_at) in
           let fl : l' ≡ l = sym (el ∙ h.node.length_at) in
           rw (z, fs, fl)
-          (q.holds p.none_first p.base p.low u ks p.rest p.live p.above p.room (ek ∙ first_word w node ∙ h.node.kind_at) (ei ∙ h.node.id_at) (rw ea h.first) p.onto)
+          (q.holds p.none_first p.base p.low u ks p.rest p.live p.above p.room (ek ∙ h.node.kind_at) (ei ∙ h.node.id_at) (rw ea h.first) p.onto)
 
   pub copied_part : kd ≡ 2 → {w' : List ℕ} {top next r : ℕ} → PushedPart w w' top s l a i next r → Copied w w' top node next (top + 10) r
   unfolding siblings ◌⊕◌
@@ -73,7 +70,7 @@ module _ {w : List ℕ} {node kd i s l a : ℕ} (ek : kd ≡ get_or w (node + 0)
       go : (p : CopyReady w top node next) (first : Trees) → siblings first ≡ 1 → Holds p.none_first w p.base top p.low node (first ⊕ p.tail)
           → Holds p.none_first w' p.base (top + 10) p.low r (first ⊕ p.rest)
       go p nil one h = absurd (omega arith)
-      go p (tree u s' l' ks more) one h = absurd (no_part_kind p.none_first u (sym h.node.kind_at ∙ sym (ek ∙ first_word w node) ∙ k))
+      go p (tree u s' l' ks more) one h = absurd (no_part_kind p.none_first u (sym h.node.kind_at ∙ sym ek ∙ k))
       go p (part s' l' ws more) one h =
           let z : more ≡ nil = siblings_none more (omega arith) in
           let fs : s' ≡ s = sym (es ∙ h.node.start_at) in

@@ -282,58 +282,54 @@ module _ {w₀ : List ℕ} {top₀ stack node k kd i m size next : ℕ} (p : Div
         pub kids_size : suc (total p.type (kids_of g)) ≡ sum
         kids_size = total_kids p.type g (omega (arith, sum_is, pos)) (one_lone g (count_is ∙ o)) ∙ sum_is
 
-        kids_at : Holds p.type.none_first w p.base high p.low (get_or w (first + 4) 0) (kids_of g)
+        pub kids_at : Holds p.type.none_first w p.base high p.low (get_or w (first + 4) 0) (kids_of g)
         kids_at = kids_held p.type.none_first w p.base high p.low first p.type g d.waits.tail (count_is ∙ o) (omega (arith, sum_is, pos)) held
 
-        module _ {kids : ℕ} (ek : kids ≡ get_or w (first + 4) 0) where
-          pub kids_there : Holds p.type.none_first w p.base high p.low kids (kids_of g)
-          kids_there = rw ek kids_at
+        pub kids_read : Readable w (get_or w (first + 4) 0)
+        kids_read = readable p.type.none_first w p.base high p.low _ (kids_of g) high_inside kids_at
 
-          pub kids_read : Readable w kids
-          kids_read = readable p.type.none_first w p.base high p.low kids (kids_of g) high_inside kids_there
+        module _ {n : ℕ} (en : n ≡ told w (get_or w (first + 4) 0) 8) where
+          pub kids_count : siblings (kids_of g) ≡ n
+          kids_count = omega (arith, en, tells_trees p.type.none_first w p.base high p.low _ (kids_of g) kids_at, siblings_total p.type (kids_of g), kids_size, p.few, sum_le, d.less)
 
-          module _ {n : ℕ} (en : n ≡ told w kids 8) where
-            pub kids_count : siblings (kids_of g) ≡ n
-            kids_count = omega (arith, en, tells_trees p.type.none_first w p.base high p.low kids (kids_of g) kids_there, siblings_total p.type (kids_of g), kids_size, p.few, sum_le, d.less)
+          abbrev pub kids_ready : PushReady w (sp + 4) (get_or w (first + 4) 0) n kd i m
+          kids_ready = record {
+            base = p.base;
+            top = high;
+            low = p.low;
+            bottom = stack;
+            type = p.type;
+            us = kids_of g;
+            tail = nil;
+            below = gs;
+            room = omega (arith, room, kids_size);
+            under = p.under;
+            inside = omega (arith, p.inside, length_same);
+            holds = rw (⊕-nil (kids_of g)) kids_at;
+            counted = kids_count;
+            kind_is = p.kind_is;
+            id_is = p.id_is;
+            few = omega (arith, p.few, sum_le, d.less, kids_size);
+            ends = kids_ends g d.waits.ends;
+            pending = d.waits.below;
+          }
 
-            abbrev pub kids_ready : PushReady w (sp + 4) kids n kd i m
-            kids_ready = record {
-              base = p.base;
-              top = high;
-              low = p.low;
-              bottom = stack;
-              type = p.type;
-              us = kids_of g;
-              tail = nil;
-              below = gs;
-              room = omega (arith, room, kids_size);
-              under = p.under;
-              inside = omega (arith, p.inside, length_same);
-              holds = rw (⊕-nil (kids_of g)) kids_there;
-              counted = kids_count;
-              kind_is = p.kind_is;
-              id_is = p.id_is;
-              few = omega (arith, p.few, sum_le, d.less, kids_size);
-              ends = kids_ends g d.waits.ends;
-              pending = d.waits.below;
-            }
-
-            pub dividing_inner : {w' : List ℕ} {sp' : ℕ} → Pushed w w' (sp + 4) kids n kd i m sp'
-                → Dividing w' high done (left - 1) sp' (stacked (groups p.type m (kids_of g)) gs) ts
-            dividing_inner {w'} {sp'} h =
-                let inner : List Trees = groups p.type m (kids_of g) in
-                let above = h.above kids_ready in
-                let s : Same w w' 0 high (sp + 4) = same_less w w' 0 sp' (sp + 4) 0 high (sp + 4) (omega arith) above (omega arith) h.kept in
-                let s_low : Same w w' p.base high p.low = same_less w w' 0 high (sp + 4) p.base high p.low (omega arith) (omega arith) low_sp s in
-                let some = some_group p.type m (kids_of g) (omega (arith, kids_size, l, pos)) in
-                let inner-is = placed_inner p.type m g (count_is ∙ o) (omega (arith, sum_is)) pos in
-                record {
-                  kept = still w' high done (omega arith) s ts;
-                  grown = d.grown;
-                  waits = h.waits kids_ready;
-                  onto = frame p.type.none_first w w' p.base high p.low high p.low (omega arith) (omega arith) s_low done ts d.onto;
-                  whole = unwound_stacked f inner gs ts ∙ ap (λ (x : Trees). unwound f gs (x ⊕ ts)) (sym inner-is) ∙ sym (unwound_step f g gs ts) ∙ d.whole;
-                  left_is = omega (arith, weight_stacked p.type inner gs, weight_groups p.type m (kids_of g), weights, kids_size, sum_is);
-                  less = omega (arith, d.less);
-                  used = omega (arith, d.used, length_stacked inner gs, some, sum_le, sum_some);
-                }
+          pub dividing_inner : {w' : List ℕ} {sp' : ℕ} → Pushed w w' (sp + 4) (get_or w (first + 4) 0) n kd i m sp'
+              → Dividing w' high done (left - 1) sp' (stacked (groups p.type m (kids_of g)) gs) ts
+          dividing_inner {w'} {sp'} h =
+              let inner : List Trees = groups p.type m (kids_of g) in
+              let above = h.above kids_ready in
+              let s : Same w w' 0 high (sp + 4) = same_less w w' 0 sp' (sp + 4) 0 high (sp + 4) (omega arith) above (omega arith) h.kept in
+              let s_low : Same w w' p.base high p.low = same_less w w' 0 high (sp + 4) p.base high p.low (omega arith) (omega arith) low_sp s in
+              let some = some_group p.type m (kids_of g) (omega (arith, kids_size, l, pos)) in
+              let inner-is = placed_inner p.type m g (count_is ∙ o) (omega (arith, sum_is)) pos in
+              record {
+                kept = still w' high done (omega arith) s ts;
+                grown = d.grown;
+                waits = h.waits kids_ready;
+                onto = frame p.type.none_first w w' p.base high p.low high p.low (omega arith) (omega arith) s_low done ts d.onto;
+                whole = unwound_stacked f inner gs ts ∙ ap (λ (x : Trees). unwound f gs (x ⊕ ts)) (sym inner-is) ∙ sym (unwound_step f g gs ts) ∙ d.whole;
+                left_is = omega (arith, weight_stacked p.type inner gs, weight_groups p.type m (kids_of g), weights, kids_size, sum_is);
+                less = omega (arith, d.less);
+                used = omega (arith, d.used, length_stacked inner gs, some, sum_le, sum_some);
+              }

@@ -2,7 +2,7 @@
 use mathlib.Core.Path.{◌≡◌, refl, sym, ap, ◌∙◌}
 use mathlib.Core.Bool.{Bool, true, false}
 use mathlib.Core.List.{List, ◌∷◌}
-use mathlib.Core.Option.{Option}
+use Rattle.std.specs.Prelude.{Option}
 use Prim.Native.Nat.{ℕ, ◌+◌, ◌≤◌, ◌<◌}
 use native.Mathlib.Omega.{arith}
 use borrow.Author.Tests.{lt-ltb, le-ltb}
@@ -116,10 +116,10 @@ module _ {w : List ℕ} {node k kd i : ℕ} (m : ℕ) (p : Row w node k kd i) wh
       part_one : (s n : ℕ) (ws : List ℕ) → total p.type (part s n ws nil) ≡ 1
       part_one s n ws = one_part p.type s n ws
 
-  pub growing_start : {size a b end next : ℕ} → 1 ≤ k → size ≡ sized w node kd i → a ≡ get_or w (node + 2) 0 → b ≡ get_or w (node + 3) 0 → end ≡ word (a + b) → next ≡ get_or w (node + 5) 0
+  pub growing_start : {size end next : ℕ} → 1 ≤ k → size ≡ sized w node kd i → end ≡ word (get_or w (node + 2) 0 + get_or w (node + 3) 0) → next ≡ get_or w (node + 5) 0
       → Started size end next
-  growing_start {size} {end = end} {next = next} l es ea eb ee en =
-      start_at p.us size end next l refl p.holds p.few p.ends p.counted refl (es ∙ rw (p.kind_is, p.id_is)) (ee ∙ rw (ea, eb)) en
+  growing_start {size} {end = end} {next = next} l es ee en =
+      start_at p.us size end next l refl p.holds p.few p.ends p.counted refl (es ∙ rw (p.kind_is, p.id_is)) ee en
 
   sized_is : (n : ℕ) → sized w n kd i ≡ sized w n (stored_kind p.type) (id_word p.type.type)
   sized_is n = rw (p.kind_is, p.id_is)
@@ -238,8 +238,8 @@ module _ {w : List ℕ} {node k kd i : ℕ} (m : ℕ) (p : Row w node k kd i) wh
       small = g.small;
     }
 
-    pub growing_step : count < k → {x grown a b next' end' : ℕ} → x ≡ sized w next kd i → grown ≡ word (size + x) → grown < m → m ≤ 4294967295
-        → a ≡ get_or w (next + 2) 0 → b ≡ get_or w (next + 3) 0 → end' ≡ word (a + b) → next' ≡ get_or w (next + 5) 0 → Grown count grown next' end'
-    growing_step l {x} {grown} {next' = next'} {end' = end'} ex eg under fits ea eb ee en =
+    pub growing_step : count < k → {x grown next' end' : ℕ} → x ≡ sized w next kd i → grown ≡ word (size + x) → grown < m → m ≤ 4294967295
+        → end' ≡ word (get_or w (next + 2) 0 + get_or w (next + 3) 0) → next' ≡ get_or w (next + 5) 0 → Grown count grown next' end'
+    growing_step l {x} {grown} {next' = next'} {end' = end'} ex eg under fits ee en =
         step count size next end first rest g x grown next' end' g.next_is ends_rest (omega (arith, left_over)) sums (ex ∙ sized_is next) eg
-        under fits (ee ∙ rw (ea, eb)) en g.split g.from
+        under fits ee en g.split g.from

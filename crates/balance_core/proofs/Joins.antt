@@ -2,7 +2,7 @@
 use mathlib.Core.Path.{◌≡◌, refl, sym, ap, ◌∙◌}
 use mathlib.Core.Bool.{Bool, true, false, cond, ◌&&◌}
 use mathlib.Core.List.{List}
-use mathlib.Core.Option.{Option}
+use Rattle.std.specs.Prelude.{Option}
 use Prim.Native.Nat.{ℕ, ◌+◌, ◌≤◌}
 use native.Mathlib.Omega.{arith}
 use borrow.Author.Tests.{eq-eqb, ne_eqb}
@@ -11,35 +11,11 @@ use lib.ListN.{length, get_or}
 use Rattle.tree.specs.Trees.{Trees, nil, tree, part, ◌⊕◌, siblings}
 use Rattle.tree.specs.Cells.{id_word}
 use Rattle.tree.specs.Balance.{SetType, same_type, lone, is_tree, joined}
-use Rattle.store.specs.Store.{Holds, Readable, PushedTree, typed, stored_kind}
+use Rattle.store.specs.Store.{Holds, Readable, PushedTree, stored_kind}
 use Rattle.store.proofs.Types.{typed_is, typed_part}
 use Rattle.store.proofs.Frame.{readable}
 use Rattle.balance_core.specs.Ready.{CopyReady, Copied, JoinReady, Joined, alone}
 use Rattle.tree.proofs.ListingLaws.{⊕-nil}
-
--- the answers of the test
-module _ (w : List ℕ) (n k i s l : ℕ) where
-  pub alone_none : n ≡ 0 → false ≡ alone w n k i s l
-  alone_none e = rw (eq-eqb n 0 e)
-
-  module _ (live : n ≡ 0 → ⊥) {a : ℕ} (ea : a ≡ get_or w (n + 5) 0) where
-    pub alone_next : (a ≡ 0 → ⊥) → false ≡ alone w n k i s l
-    alone_next h = rw (ne_eqb n 0 live, ← ea, ne_eqb a 0 h)
-
-    module _ (za : a ≡ 0) {b : Bool} (eb : b ≡ typed w n k i) where
-      pub alone_type : b ≡ false → false ≡ alone w n k i s l
-      alone_type h = rw (ne_eqb n 0 live, ← ea, eq-eqb a 0 za, ← eb, h)
-
-      module _ (zb : b ≡ true) {d : ℕ} (ed : d ≡ get_or w (n + 2) 0) where
-        pub alone_start : (d ≡ s → ⊥) → false ≡ alone w n k i s l
-        alone_start h = rw (ne_eqb n 0 live, ← ea, eq-eqb a 0 za, ← eb, zb, ← ed, ne_eqb s d (λ x. h (sym x)))
-
-        module _ (zd : d ≡ s) {e : ℕ} (ee : e ≡ get_or w (n + 3) 0) where
-          pub alone_length : (e ≡ l → ⊥) → false ≡ alone w n k i s l
-          alone_length h = rw (ne_eqb n 0 live, ← ea, eq-eqb a 0 za, ← eb, zb, ← ed, eq-eqb s d (sym zd), ← ee, ne_eqb l e (λ x. h (sym x)))
-
-          pub alone_yes : e ≡ l → true ≡ alone w n k i s l
-          alone_yes h = rw (ne_eqb n 0 live, ← ea, eq-eqb a 0 za, ← eb, zb, ← ed, eq-eqb s d (sym zd), ← ee, eq-eqb l e (sym h))
 
 four : (a b d e : Bool) → cond a (cond b (cond d (cond e true false) false) false) false ≡ (a && (b && (d && e)))
 four false b d e = refl

@@ -3,9 +3,9 @@ use mathlib.Core.Path.{◌≡◌, refl, sym, ap, ◌∙◌}
 use mathlib.Core.List.{List, [], ◌∷◌}
 use Prim.Native.Nat.{ℕ, ◌+◌, ◌-◌, ◌*◌, ◌≤◌, ◌<◌}
 use native.Mathlib.Omega.{arith}
-use lib.ListN.{length, get_or, set}
+use lib.ListN.{length, get_or}
 use Rattle.words.specs.Words.{put}
-use Rattle.words.proofs.Stores.{put_four, put_in}
+use Rattle.words.proofs.Stores.{put_in}
 use Rattle.tree.specs.Trees.{Trees, nil, ◌⊕◌, siblings}
 use Rattle.tree.specs.Balance.{total, groups}
 use Rattle.tree.proofs.ListingLaws.{⊕-assoc}
@@ -13,18 +13,10 @@ use Rattle.tree.proofs.FuelLaws.{total-⊕}
 use Rattle.store.specs.Store.{Holds, Same}
 use Rattle.store.proofs.Frame.{same_less, same_put, frame}
 use Rattle.balance_core.specs.Rows.{Ends, Row, Grouped}
-use Rattle.balance_core.specs.Pending.{GroupAt, Pending, stacked, PushReady}
+use Rattle.balance_core.specs.Pending.{Pending, stacked, PushReady}
 use Rattle.balance_core.proofs.Lists.{siblings_none, siblings-⊕, siblings_total}
 use Rattle.balance_core.proofs.Growth.{ends_front, ends_back}
 use Rattle.balance_core.proofs.Stack.{pending_deep, pending_frame}
-
--- a group's four words, read and written
-pub at_index : (w : List ℕ) (at n : ℕ) → n ≡ at → GroupAt w at (get_or w n 0) (get_or w (n + 1) 0) (get_or w (n + 2) 0) (get_or w (n + 3) 0)
-at_index w at n e = rw (← e) (record { node_is = refl; count_is = refl; size_is = refl; end_is = refl })
-
-pub stored_four : (w : List ℕ) (stack at n a b c d : ℕ) → n ≡ at → at + 4 ≡ stack → stack ≤ length w
-    → set (set (set (set w n a) (n + 1) b) (n + 2) c) (n + 3) d ≡ put w at (a ∷ b ∷ c ∷ d ∷ [])
-stored_four w stack at n a b c d e f l = rw (← e) (put_four w n a b c d (omega arith))
 
 stacked_nil : (t : _) (m : ℕ) (cur : List Trees) → stacked (groups t m nil) cur ≡ cur
 unfolding stacked groups

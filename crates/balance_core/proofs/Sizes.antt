@@ -1,29 +1,18 @@
 -- Balanced sizes as nodes tell them. Assumes nothing.
-use mathlib.Core.Path.{◌≡◌, refl, sym, ap, ◌∙◌}
+use mathlib.Core.Path.{◌≡◌, refl, sym, ◌∙◌}
 use mathlib.Core.Bool.{Bool, true, false, cond, true≢false}
 use mathlib.Core.List.{List}
-use mathlib.Core.Option.{Option}
+use Rattle.std.specs.Prelude.{Option}
 use Prim.Native.Nat.{ℕ, suc, ◌+◌, max, ◌≤◌}
 use native.Mathlib.Omega.{arith}
-use lib.ListN.{length, get_or}
+use lib.ListN.{length}
 use Rattle.tree.specs.Trees.{Trees, nil, tree, part, siblings}
 use Rattle.tree.specs.Cells.{id_word}
 use Rattle.tree.specs.Balance.{SetType, same_type, all_of, total}
-use Rattle.store.specs.Store.{Holds, Readable, typed, liked, likes, stored_kind, word}
+use Rattle.store.specs.Store.{Holds, likes, stored_kind, word}
 use Rattle.store.proofs.Types.{typed_is, typed_part}
 use Rattle.store.proofs.Frame.{tells_like, readable}
 use Rattle.balance_core.specs.Rows.{sized, Sizable}
-
--- the two answers
-module _ (w : List ℕ) (node k i : ℕ) where
-  pub sized_same : (a b kids : ℕ) → true ≡ typed w node k i → kids ≡ get_or w (node + 4) 0 → a ≡ liked w kids k i → b ≡ max 1 a → b ≡ sized w node k i
-  sized_same a b kids h e f g = g ∙ ap (λ (x : ℕ). max 1 x) f ∙ rw (← h, e)
-
-  pub sized_other : false ≡ typed w node k i → 1 ≡ sized w node k i
-  sized_other h = rw (← h)
-
-  pub sizable_kids : (kids : ℕ) → Sizable w node k i → true ≡ typed w node k i → kids ≡ get_or w (node + 4) 0 → Readable w kids
-  sizable_kids kids s h e = rw e (s.kids (sym h))
 
 likes_size : (t : SetType) (u : Option ℕ) (s l : ℕ) (kids : Trees) → same_type t u ≡ true → max 1 (likes t kids) ≡ word (total t (tree u s l kids nil))
 unfolding likes total

@@ -1,6 +1,6 @@
 -- What balancing asks of a store and leaves in it. Only internal functions cite these.
 use Rattle.std.specs.Prelude.{◌≡◌, List, Bool, true, false, cond, ℕ, suc, ◌+◌, ◌*◌, ◌≤◌, ◌<◌, eqb, length}
-use Rattle.std.proofs.Math.Option.{Option}
+use Rattle.std.specs.Prelude.{Option}
 use Rattle.tree.specs.Trees.{Trees, ◌⊕◌, siblings}
 use Rattle.tree.specs.Cells.{id_word}
 use Rattle.tree.specs.Balance.{SetType, in_set, total, share, divide, joined, balance}

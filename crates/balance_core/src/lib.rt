@@ -11,9 +11,7 @@ ghost use Rattle.balance_core.specs.Rows.{sized, Sizable, Row, Grouped};
 ghost use Rattle.balance_core.specs.Pending.{GroupAt, PushReady, Pushed};
 ghost use Rattle.balance_core.specs.Ready.{CopyReady, Copied, alone, JoinReady, Joined, DivideReady, Divided, BalanceReady, Balanced};
 
-use store::{
-    NODE_FIRST, NODE_ID, NODE_KIND, NODE_LENGTH, NODE_NEXT, NODE_START, NODE_TREES, NODE_WIDTH,
-};
+use store::{NODE_FIRST, NODE_START, NODE_TREES, NODE_WIDTH, NodeType};
 
 // The first group of a row: how many trees, their size, the list after them and their end.
 #[derive(Clone, Copy)]
@@ -25,79 +23,62 @@ pub struct Front {
 }
 
 // A node's balanced size.
-fn balanced_node_size(work: &[u32], node: u32, kind: u32, id: u32) -> u32
-    requires { Sizable work.now node kind id }
-    ensures { result ≡ sized work.now node kind id }
+fn balanced_node_size(work: &[u32], node: u32, balance_type: NodeType) -> u32
+    requires { Sizable work.now node balance_type.kind balance_type.id }
+    ensures { result ≡ sized work.now node balance_type.kind balance_type.id }
 {
-    if store::same_type(work, node, kind, id) {
-        return store::at_least_one(store::like(work, word_at(work, node, NODE_FIRST), kind, id));
+    if store::same_type(work, node, balance_type) {
+        return store::like(work, work[node as usize + NODE_FIRST], balance_type).max(1);
     }
     1
 }
 
-// Word k of a node.
-fn word_at(work: &[u32], node: u32, k: usize) -> u32
-    requires node_width_in_bounds { node + node_width ≤ length work.now }
-    requires k_lt_node_width { k < node_width }
-    ensures { result ≡ get_or work.now (node + k) 0 }
-{
-    work[words::index(node) + k]
-}
-
 // Three sixteenths, rounded up.
+#[tactic(auto, unfolding(tree::specs::Balance::share))]
 fn share_of(n: u32) -> u32
     ensures { result ≡ share n }
 {
-    ((3 * (n as u64) + 15) / 16) as u32
+    (3 * u64::from(n)).div_ceil(16) as u32
 }
 
 // The first group of a row of k trees: it grows while its size plus the next is below m.
-fn first_group(work: &[u32], node: u32, k: u32, kind: u32, id: u32, m: u32) -> Front
-    requires row { Row work.now node k kind id }
+fn first_group(work: &[u32], node: u32, k: u32, balance_type: NodeType, m: u32) -> Front
+    requires row { Row work.now node k balance_type.kind balance_type.id }
     requires le_k { 1 ≤ k }
-    ensures { (p : Row work.now node k kind id) → Grouped work.now node k kind id m p result.count result.size result.next result.end }
+    ensures { (p : Row work.now node k balance_type.kind balance_type.id) → Grouped work.now node k balance_type.kind balance_type.id m p result.count result.size result.next result.end }
 {
-    let mut count: u32 = 1;
-    let mut size = balanced_node_size(work, node, kind, id);
-    let mut end = store::sum(
-        word_at(work, node, NODE_START),
-        word_at(work, node, NODE_LENGTH),
-    );
-    let mut next = word_at(work, node, NODE_NEXT);
-    while count < k {
-        let grown = store::sum(size, balanced_node_size(work, next, kind, id));
+    let first = store::node_at(work, node);
+    let mut g = Front {
+        count: 1,
+        size: balanced_node_size(work, node, balance_type),
+        next: first.next,
+        end: first.start.saturating_add(first.length),
+    };
+    while g.count < k {
+        let grown = g
+            .size
+            .saturating_add(balanced_node_size(work, g.next, balance_type));
         if m <= grown {
-            return Front {
-                count: count,
-                size: size,
-                next: next,
-                end: end,
-            };
+            return g;
         }
-        size = grown;
-        end = store::sum(
-            word_at(work, next, NODE_START),
-            word_at(work, next, NODE_LENGTH),
-        );
-        next = word_at(work, next, NODE_NEXT);
-        count += 1;
+        let last = store::node_at(work, g.next);
+        g = Front {
+            count: g.count + 1,
+            size: grown,
+            next: last.next,
+            end: last.start.saturating_add(last.length),
+        };
     }
-    Front {
-        count: count,
-        size: size,
-        next: next,
-        end: end,
-    }
+    g
 }
 
 // The size of a row of k trees: that of its first group under a share which no size reaches.
-pub fn row_size(work: &[u32], node: u32, k: u32, kind: u32, id: u32) -> u32
-    requires row { Row work.now node k kind id }
+pub fn row_size(work: &[u32], node: u32, k: u32, balance_type: NodeType) -> u32
+    requires row { Row work.now node k balance_type.kind balance_type.id }
     requires le_k { 1 ≤ k }
-    ensures { (p : Row work.now node k kind id) → result ≡ total p.type p.us }
+    ensures { (p : Row work.now node k balance_type.kind balance_type.id) → result ≡ total p.type p.us }
 {
-    let g = first_group(work, node, k, kind, id, u32::MAX);
-    g.size
+    first_group(work, node, k, balance_type, u32::MAX).size
 }
 
 // A list, and the store's new top.
@@ -112,66 +93,50 @@ fn copy(work: &mut [u32], top: u32, node: u32, next: u32) -> Made
     requires { CopyReady work.old top node next }
     ensures { Copied work.old work.new top node next result.top result.node }
 {
-    let kind = word_at(work, node, NODE_KIND);
-    let id = word_at(work, node, NODE_ID);
-    let start = word_at(work, node, NODE_START);
-    let length = word_at(work, node, NODE_LENGTH);
-    let first = word_at(work, node, NODE_FIRST);
-    if kind == 2 {
-        let made = store::push_part(work, top, start, length, first, id, next);
+    let n = store::node_at(work, node);
+    if n.own.kind == 2 {
+        let made = store::push_part(work, top, n.start, n.length, n.first, n.own.id, next);
         return Made {
             top: top + NODE_WIDTH,
             node: made,
         };
     }
-    let made = store::push_tree(work, top, kind, id, start, length, first, next);
+    let made = store::push_tree(work, top, n.own, n.start, n.length, n.first, next);
     Made {
         top: top + NODE_WIDTH,
         node: made,
     }
 }
 
+// The tree that siblings are put under: its type, its start and its length.
+#[derive(Clone, Copy)]
+pub struct Parent {
+    pub own: NodeType,
+    pub start: u32,
+    pub length: u32,
+}
+
 // Is a list one tree of this type, start and length?
-fn is_one(work: &[u32], node: u32, kind: u32, id: u32, start: u32, length: u32) -> bool
+fn is_one(work: &[u32], node: u32, p: Parent) -> bool
     requires { Readable work.now node }
-    ensures { result ≡ alone work.now node kind id start length }
+    ensures { result ≡ alone work.now node p.own.kind p.own.id p.start p.length }
 {
     if node == 0 {
         return false;
     }
-    if word_at(work, node, NODE_NEXT) != 0 {
-        return false;
-    }
-    if !store::same_type(work, node, kind, id) {
-        return false;
-    }
-    if word_at(work, node, NODE_START) != start {
-        return false;
-    }
-    if word_at(work, node, NODE_LENGTH) != length {
-        return false;
-    }
-    true
+    let n = store::node_at(work, node);
+    n.next == 0 && store::same_type(work, node, p.own) && n.start == p.start && n.length == p.length
 }
 
 // A tree over a list, before another; where the list is one tree of equal type, start and length, that tree.
-fn join(
-    work: &mut [u32],
-    top: u32,
-    node: u32,
-    kind: u32,
-    id: u32,
-    start: u32,
-    length: u32,
-    next: u32,
-) -> Made
-    requires { JoinReady work.old top node kind id next }
-    ensures { Joined work.old work.new top node kind id start length next result.top result.node }
+fn join(work: &mut [u32], top: u32, node: u32, p: Parent, next: u32) -> Made
+    requires { JoinReady work.old top node p.own.kind p.own.id next }
+    ensures { Joined work.old work.new top node p.own.kind p.own.id p.start p.length next result.top result.node }
 {
-    if is_one(work, node, kind, id, start, length) {
+    if is_one(work, node, p) {
         return copy(work, top, node, next);
     }
-    let made = store::push_tree(work, top, kind, id, start, length, node, next);
+    let made = store::push_tree(work, top, p.own, p.start, p.length, node, next);
     Made {
         top: top + NODE_WIDTH,
         node: made,
@@ -192,7 +157,7 @@ fn group_at(work: &[u32], at: u32) -> Group
     requires { at + 4 ≤ length work.now }
     ensures { GroupAt work.now at result.node result.count result.size result.end }
 {
-    let n = words::index(at);
+    let n = at as usize;
     Group {
         node: work[n],
         count: work[n + 1],
@@ -202,49 +167,45 @@ fn group_at(work: &[u32], at: u32) -> Group
 }
 
 // Puts a group's four words below the place `stack`: where they stand.
-fn push_group(work: &mut [u32], stack: u32, node: u32, count: u32, size: u32, end: u32) -> u32
+fn push_group(work: &mut [u32], stack: u32, g: Group) -> u32
     requires le_stack { 4 ≤ stack }
     requires stack_in_bounds { stack ≤ length work.old }
     ensures result_value { result + 4 ≡ stack }
-    ensures work_after { work.new ≡ put work.old result (node ∷ count ∷ size ∷ end ∷ []) }
+    ensures work_after { work.new ≡ put work.old result (g.node ∷ g.count ∷ g.size ∷ g.end ∷ []) }
 {
     let at = stack - 4;
-    let n = words::index(at);
-    work[n] = node;
-    work[n + 1] = count;
-    work[n + 2] = size;
-    work[n + 3] = end;
+    words::put(work, at as usize, &[g.node, g.count, g.size, g.end]);
     at
 }
 
 // Lets the groups of a row of k trees wait below the place `stack`, the last one lowest: where they stand.
-fn push_groups(work: &mut [u32], stack: u32, node: u32, k: u32, kind: u32, id: u32, m: u32) -> u32
-    requires { PushReady work.old stack node k kind id m }
-    ensures { Pushed work.old work.new stack node k kind id m result }
+fn push_groups(
+    work: &mut [u32],
+    stack: u32,
+    node: u32,
+    k: u32,
+    balance_type: NodeType,
+    m: u32,
+) -> u32
+    requires { PushReady work.old stack node k balance_type.kind balance_type.id m }
+    ensures { Pushed work.old work.new stack node k balance_type.kind balance_type.id m result }
 {
     let mut sp = stack;
     let mut at = node;
     let mut left = k;
     while left > 0 {
-        let g = first_group(work, at, left, kind, id, m);
-        let count = g.count;
-        let size = g.size;
-        let next = g.next;
-        let end = g.end;
-        sp = push_group(work, sp, at, count, size, end);
-        at = next;
-        left -= count;
+        let g = first_group(work, at, left, balance_type, m);
+        let waiting = Group {
+            node: at,
+            count: g.count,
+            size: g.size,
+            end: g.end,
+        };
+        sp = push_group(work, sp, waiting);
+        at = g.next;
+        left -= g.count;
     }
     sp
-}
-
-// The tree that siblings are put under: its type by kind and id, its start and its length.
-#[derive(Clone, Copy)]
-pub struct Parent {
-    pub kind: u32,
-    pub id: u32,
-    pub start: u32,
-    pub length: u32,
 }
 
 // k siblings of this size divided under the share m, before the list `next`. The groups wait below the place `stack` and
@@ -257,53 +218,53 @@ fn divide_balanced(
     stack: u32,
     node: u32,
     k: u32,
-    kind: u32,
-    id: u32,
+    balance_type: NodeType,
     m: u32,
     size: u32,
     next: u32,
 ) -> Made
-    requires { DivideReady work.old top stack node k kind id m size next }
-    ensures { Divided work.old work.new top stack node k kind id m size next result.top result.node }
+    requires { DivideReady work.old top stack node k balance_type.kind balance_type.id m size next }
+    ensures { Divided work.old work.new top stack node k balance_type.kind balance_type.id m size next result.top result.node }
 {
-    let mut high = top;
-    let mut done = next;
+    let mut made = Made { top, node: next };
     let mut left = size;
-    let mut sp = push_groups(work, stack, node, k, kind, id, m);
+    let mut sp = push_groups(work, stack, node, k, balance_type, m);
     while left > 0 {
         let g = group_at(work, sp);
         sp += 4;
         if g.count == 1 {
             if m < g.size {
-                let kids = word_at(work, g.node, NODE_FIRST);
+                let kids = work[g.node as usize + NODE_FIRST];
                 let n = store::tell(work, kids, NODE_TREES);
-                sp = push_groups(work, sp, kids, n, kind, id, m);
+                sp = push_groups(work, sp, kids, n, balance_type, m);
                 left -= 1;
                 continue;
             }
-            let kept = copy(work, high, g.node, done);
-            high = kept.top;
-            done = kept.node;
+            made = copy(work, made.top, g.node, made.node);
             left -= g.size;
             continue;
         }
-        let start = word_at(work, g.node, NODE_START);
-        let length = words::less(g.end, start);
-        let own = Parent {
-            kind: kind,
-            id: id,
-            start: start,
-            length: length,
+        let start = work[g.node as usize + NODE_START];
+        let length = g.end.saturating_sub(start);
+        let parent = Parent {
+            own: balance_type,
+            start,
+            length,
         };
-        let made = balance_range(work, high, sp, g.node, g.count, g.size, kind, id, own, done);
-        high = made.top;
-        done = made.node;
+        made = balance_range(
+            work,
+            made.top,
+            sp,
+            g.node,
+            g.count,
+            g.size,
+            balance_type,
+            parent,
+            made.node,
+        );
         left -= g.size;
     }
-    Made {
-        top: high,
-        node: done,
-    }
+    made
 }
 
 // k siblings of this size, balanced under a parent, before the list `next`.
@@ -315,21 +276,23 @@ pub fn balance_range(
     node: u32,
     k: u32,
     size: u32,
-    kind: u32,
-    id: u32,
+    balance_type: NodeType,
     parent: Parent,
     next: u32,
 ) -> Made
-    requires { BalanceReady work.old top stack node k kind id parent.kind parent.id size next }
-    ensures { Balanced work.old work.new top stack node k kind id parent.kind parent.id parent.start parent.length size next result.top result.node }
+    requires { BalanceReady work.old top stack node k balance_type.kind balance_type.id parent.own.kind parent.own.id size next }
+    ensures { Balanced work.old work.new top stack node k balance_type.kind balance_type.id parent.own.kind parent.own.id parent.start parent.length size next result.top result.node }
 {
-    let own_kind = parent.kind;
-    let own_id = parent.id;
-    let start = parent.start;
-    let length = parent.length;
-    let m = share_of(size);
-    let made = divide_balanced(work, top, stack, node, k, kind, id, m, size, 0);
-    let high = made.top;
-    let kids = made.node;
-    join(work, high, kids, own_kind, own_id, start, length, next)
+    let made = divide_balanced(
+        work,
+        top,
+        stack,
+        node,
+        k,
+        balance_type,
+        share_of(size),
+        size,
+        0,
+    );
+    join(work, made.top, made.node, parent, next)
 }

@@ -1,14 +1,14 @@
 -- The call: the refusals of the check, or the build of an accepted list. Assumes nothing.
 use mathlib.Core.Path.{◌≡◌, refl, sym, ap, ◌∙◌}
 use mathlib.Core.List.{List, [], ◌∷◌}
-use mathlib.Core.Option.{Option}
+use Rattle.std.specs.Prelude.{Option}
 use Prim.Native.Nat.{ℕ, ◌+◌, ◌*◌, ◌/◌, ◌≤◌}
 use lib.ListN.{length}
-use Rattle.words.specs.Outcome.{Outcome, accepted, refused, number_of, Result}
+use Rattle.words.specs.Outcome.{Outcome, accepted, refused, number_of, place_of, Result}
 use Rattle.records.specs.Check.{check, Accepted}
-use Rattle.records.specs.Answer.{checked_outcome}
-use Rattle.records.specs.declared.Checked.{Checked}
-use Rattle.records.specs.declared.Checked.TheVariants.{Records, Refused}
+use Rattle.words.specs.Refusal.{refused_by}
+use Rattle.words.specs.declared.refusal.Refusal.{Refusal}
+use Rattle.words.proofs.Refusals.{told}
 use Rattle.records.proofs.AcceptLaws.{check_accepted, check_room, accepted_check}
 use Rattle.tree.specs.Calls.{written, build_call}
 use Rattle.build.specs.Building.{Listed, built}
@@ -22,16 +22,16 @@ first_of : (a c : ℕ) → accepted (a ∷ []) ≡ accepted (c ∷ []) → a ≡
 unfolding first_count
 first_of a c e = ap first_count e
 
-module _ (T F b S top : ℕ) (given : Option ℕ) (work : ℕ) (w cells words : List ℕ) (r : Checked) (is : checked_outcome r ≡ check T b top S work w) where
-  pub refuses : (number place : ℕ) → r ≡ Refused number place → record { outcome = refused number place; outputs = cells ∷ words ∷ [] } ≡ build_call T F b S top given work w cells words
+module _ (T F b S top : ℕ) (given : Option ℕ) (work : ℕ) (w cells words : List ℕ) where
+  pub refuses : (r : Refusal) → refused_by r ≡ check T b top S work w → record { outcome = refused_by r; outputs = cells ∷ words ∷ [] } ≡ build_call T F b S top given work w cells words
   unfolding build_call
-  refuses number place h =
-      let e : check T b top S work w ≡ refused number place = sym is ∙ ap checked_outcome h in
-      rw e refl
+  refuses r is =
+      let e : check T b top S work w ≡ refused (number_of (refused_by r)) (place_of (refused_by r)) = sym is ∙ told r in
+      rw (told r, e) refl
 
-  module _ (count : ℕ) (h : r ≡ Records count) where
+  module _ (count : ℕ) (is : accepted (count ∷ []) ≡ check T b top S work w) where
     checked : check T b top S work w ≡ accepted (count ∷ [])
-    checked = sym is ∙ ap checked_outcome h
+    checked = sym is
 
     passes : number_of (check T b top S work w) ≡ 0
     passes = ap number_of checked

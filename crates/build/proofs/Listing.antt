@@ -1,8 +1,8 @@
 -- An accepted list is read into the store, and its first-level trees can be written out. Assumes nothing.
 use mathlib.Core.Path.{◌≡◌, refl, sym, ap, ◌∙◌}
 use mathlib.Core.List.{List}
-use mathlib.Core.Option
-use mathlib.Core.Option.{Option, none, some}
+use Rattle.std.specs.Option.{unwrap_or}
+use Rattle.std.specs.Prelude.{Option, None, Some}
 use Prim.Native.Nat.{ℕ, zero, suc, ◌+◌, ◌-◌, ◌*◌, ◌/◌, ◌≤◌, ◌<◌}
 use native.Mathlib.Omega.{arith}
 use borrow.Author.Tests.{eq-eqb, ne_eqb}
@@ -79,17 +79,17 @@ module _ (F b S : ℕ) (w : List ℕ) (size : ℕ) (q : Listed b S w size) where
   records_are : count (parse w) ≡ n
   records_are = omega (arith, words_of (parse w), ap length (accepted_list q.T b q.top S w q.accepted))
 
-  build_is : (top : ℕ) (given : Option ℕ) → build F b S top given (parse w) ≡ tree (some top) S (Option.get_or given (last_end S (first_level F b S (parse w)) - S)) (first_level F b S (parse w)) nil
+  build_is : (top : ℕ) (given : Option ℕ) → build F b S top given (parse w) ≡ tree (Some top) S (unwrap_or given (last_end S (first_level F b S (parse w)) - S)) (first_level F b S (parse w)) nil
   unfolding build
   build_is top given = refl
 
   pub few_kids : nodes (first_level F b S (parse w)) ≤ 2 * n
   unfolding nodes
-  few_kids = omega (arith, ap nodes (build_is 0 none), few_cells F b S 0 none (parse w), records_are)
+  few_kids = omega (arith, ap nodes (build_is 0 None), few_cells F b S 0 None (parse w), records_are)
 
   pub few_packed : length (packed (first_level F b S (parse w))) ≤ 4 * n
   unfolding packed
-  few_packed = omega (arith, ap (λ (t : Trees). length (packed t)) (build_is 0 none), few_words F b S 0 none (parse w), records_are, ap length (mathlib.Core.List.append-nil (packed (first_level F b S (parse w)))))
+  few_packed = omega (arith, ap (λ (t : Trees). length (packed t)) (build_is 0 None), few_words F b S 0 None (parse w), records_are, ap length (mathlib.Core.List.append-nil (packed (first_level F b S (parse w)))))
 
   module _ (l' : List ℕ) (top low kids : ℕ) (taken : TakenAll F b S w l' top low kids) (same_size : length l' ≡ size) where
     abbrev pub writing : Writes l' top kids
@@ -111,8 +111,8 @@ module _ (F b S : ℕ) (w : List ℕ) (size : ℕ) (q : Listed b S w size) where
 
     -- the length: "last child's position plus length, or 0"
     length_is : (end : ℕ) → end ≡ list_end S w → last_end S (first_level F b S (parse w)) ≡ end
-    length_is end e = last_first_level q.T F b S (parse w) (ends_fit q.T F b S q.top none w q.start_fits q.accepted).0 ∙ sym (e ∙ behind_is)
+    length_is end e = last_first_level q.T F b S (parse w) (ends_fit q.T F b S q.top None w q.start_fits q.accepted).0 ∙ sym (e ∙ behind_is)
 
-    pub built_is : (id len end : ℕ) (given : Option ℕ) (cells words : List ℕ) → end ≡ list_end S w → len ≡ Option.get_or given (end - S)
+    pub built_is : (id len end : ℕ) (given : Option ℕ) (cells words : List ℕ) → end ≡ list_end S w → len ≡ unwrap_or given (end - S)
         → written_out id S len (first_level F b S (parse w)) cells words ≡ built F b S id given w cells words
     built_is id len end given cells words e h = rw (h, build_is id given, length_is end e) refl

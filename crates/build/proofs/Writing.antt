@@ -2,7 +2,7 @@
 use mathlib.Core.Path.{◌≡◌, refl, sym, ap, ◌∙◌}
 use mathlib.Core.Bool.{false}
 use mathlib.Core.List.{List, [], ◌∷◌, append-nil}
-use mathlib.Core.Option.{some}
+use Rattle.std.specs.Prelude.{Some}
 use Prim.Native.Nat.{ℕ, suc, ◌+◌, ◌*◌, ◌/◌, ◌≤◌, ◌<◌}
 use native.Mathlib.Omega.{arith}
 use lib.ListN.{length}
@@ -16,11 +16,11 @@ use Rattle.words.specs.Words.{front}
 use Rattle.build.specs.Building.{Writes, written_tree, written_out}
 use Rattle.tree.proofs.CallLaws.{cells_short, words_short, room_enough}
 
-whole_nodes : (id S l : ℕ) (kids : Trees) → nodes (tree (some id) S l kids nil) ≡ suc (nodes kids)
+whole_nodes : (id S l : ℕ) (kids : Trees) → nodes (tree (Some id) S l kids nil) ≡ suc (nodes kids)
 unfolding nodes
 whole_nodes id S l kids = omega arith
 
-whole_packed : (id S l : ℕ) (kids : Trees) → packed (tree (some id) S l kids nil) ≡ packed kids
+whole_packed : (id S l : ℕ) (kids : Trees) → packed (tree (Some id) S l kids nil) ≡ packed kids
 unfolding packed
 whole_packed id S l kids = append-nil (packed kids)
 
@@ -37,7 +37,7 @@ module _ (held : List ℕ) (top kids : ℕ) (q : Writes held top kids) (id S l :
   n_is = let e = n-told ∙ tells_cells false held q.base top q.low kids q.trees q.holds in omega (arith, q.free, q.fits, n-more, e)
 
   abbrev whole : Trees
-  whole = tree (some id) S l q.trees nil
+  whole = tree (Some id) S l q.trees nil
 
   nodes_is : nodes whole ≡ n
   nodes_is = whole_nodes id S l q.trees ∙ sym n_is
@@ -100,4 +100,4 @@ nodes_any (part s l ws rest) = refl
 -- the slice has no space for the cells
 pub cells_refused : (id S l : ℕ) (kids : Trees) (out words : List ℕ) → length out / cell_width < nodes kids + 1
     → record { outcome = refused 12 0; outputs = out ∷ words ∷ [] } ≡ written_out id S l kids out words
-cells_refused id S l kids out words h = rw (cells_short (nodes (tree (some id) S l kids nil)) (length (packed (tree (some id) S l kids nil))) (length out) (length words) (omega (arith, whole_nodes id S l kids)))
+cells_refused id S l kids out words h = rw (cells_short (nodes (tree (Some id) S l kids nil)) (length (packed (tree (Some id) S l kids nil))) (length out) (length words) (omega (arith, whole_nodes id S l kids)))

@@ -1,6 +1,6 @@
 -- What the build of an accepted list asks and leaves. Nothing here is needed to read what the call promises.
 use Rattle.std.specs.Prelude.{◌≡◌, false, cond, List, [], ◌∷◌, ℕ, suc, ◌+◌, ◌-◌, ◌*◌, ◌/◌, ◌≤◌, ◌<◌, eqb, length}
-use Rattle.std.proofs.Math.Option.{Option, some}
+use Rattle.std.specs.Prelude.{Option, Some}
 use Rattle.words.specs.Outcome.{Result, settled as settled-call}
 use Rattle.words.specs.Words.{front, end_of, record_width}
 use Rattle.records.specs.Check.{Accepted}
@@ -42,7 +42,7 @@ written_tree S t cells words =
     settled-call (room (nodes t) (length (packed t)) (length cells) (length words)) (front (tree_cells S t) cells ∷ front (packed t) words ∷ []) (cells ∷ words ∷ [])
 
 abbrev pub written_out : (id S l : ℕ) (kids : Trees) (cells words : List ℕ) → Result
-written_out id S l kids cells words = written_tree S (tree (some id) S l kids nil) cells words
+written_out id S l kids cells words = written_tree S (tree (Some id) S l kids nil) cells words
 
 abbrev pub built : (F b S top : ℕ) (given : Option ℕ) (records cells words : List ℕ) → Result
 built F b S top given records cells words = written_tree S (build F b S top given (parse records)) cells words

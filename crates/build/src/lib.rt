@@ -2,31 +2,16 @@
 #![tactic(auto)]
 
 ghost use Rattle.std.specs.Prelude.{◌≡◌, [], ◌∷◌, ◌+◌, ◌-◌, ◌*◌, ◌/◌, ◌<◌, length};
-ghost use Rattle.std.proofs.Math.Option.{get_or};
+ghost use Rattle.std.specs.Option.{unwrap_or};
+ghost use Rattle.words.specs.Refusal.{answered};
+ghost use Rattle.tree.specs.Written.{written_counts};
 ghost use Rattle.tree.specs.Calls.{build_call};
 ghost use Rattle.take.specs.Loop.{TakenAll};
-ghost use Rattle.build.specs.Answer.{given_length, built_outcome};
 ghost use Rattle.build.specs.Building.{list_end, Listed, Writes, written_out, built};
 
 use store::{NODE_CELLS, NODE_WORDS};
-use tree::CELL_WIDTH;
-use words::RECORD_WIDTH;
-
-// A given length of the whole tree, or none: then it is the last child's end.
-#[derive(Clone, Copy)]
-pub enum Given {
-    Length(u32),
-    Last,
-}
-
-// What the call answers.
-#[derive(Clone, Copy)]
-pub enum Built {
-    // The result stands in the outputs: how many cells and packed words.
-    Cells(usize, usize),
-    // Document 01's number, and the place.
-    Refused(u32, usize),
-}
+use tree::{CELL_WIDTH, Written};
+use words::{RECORD_WIDTH, Refusal};
 
 // Where the last record ends; without one, the build start.
 fn end_of_list(records: &[u32], start: u32) -> u32
@@ -36,17 +21,7 @@ fn end_of_list(records: &[u32], start: u32) -> u32
     if n == 0 {
         return start;
     }
-    records::end_at(records, records::back(n))
-}
-
-// The length of the whole tree, which starts at `start`.
-fn length_of(given: Given, start: u32, end: u32) -> u32
-    ensures { result ≡ get_or (given_length given) (end - start) }
-{
-    match given {
-        Given::Length(length) => length,
-        Given::Last => words::less(end, start),
-    }
+    records::end_at(records, n - 1)
 }
 
 // Reads an accepted list into the store. In front of the work slice stand the counts of repeat records, behind them the frames of
@@ -67,8 +42,8 @@ fn read_list(
     let n = records.len() / RECORD_WIDTH;
     let tree = take::Node {
         id: 0,
-        start: start,
-        end: end,
+        start,
+        end,
         floor: 0,
     };
     let children = gathering::Gathering {
@@ -87,9 +62,9 @@ fn read_list(
         p: n,
         depth: 0,
         low: (96 * n + 96) as u32,
-        tree: tree,
-        children: children,
-        memo: memo,
+        tree,
+        children,
+        memo,
     };
     take::take_nodes(records, first_repeat, bound, work, from)
 }
@@ -104,21 +79,24 @@ fn write_result(
     first: take::FirstLevel,
     cells: &mut [u32],
     words: &mut [u16],
-) -> Built
+) -> Result<Written, Refusal>
     requires { Writes work.old first.top first.kids }
-    ensures { (q : Writes work.old first.top first.kids) → record { outcome = built_outcome result; outputs = cells.new ∷ words.new ∷ [] } ≡ written_out id start length q.trees cells.old words.old }
+    ensures { (q : Writes work.old first.top first.kids) → record { outcome = answered written_counts result; outputs = cells.new ∷ words.new ∷ [] } ≡ written_out id start length q.trees cells.old words.old }
 {
     let kids = first.kids;
-    let count = words::index(store::tell(&*work, kids, NODE_CELLS)) + 1;
-    let packed = words::index(store::tell(&*work, kids, NODE_WORDS));
+    let count = store::tell(&*work, kids, NODE_CELLS) as usize + 1;
+    let packed = store::tell(&*work, kids, NODE_WORDS) as usize;
     if cells.len() / CELL_WIDTH < count {
-        return Built::Refused(12, 0);
+        return Err(Refusal::LittleCells);
     }
     if words.len() < packed {
-        return Built::Refused(13, 0);
+        return Err(Refusal::LittleWords);
     }
     store::write_top(work, first.top, id, start, length, kids, cells, words);
-    Built::Cells(count, packed)
+    Ok(Written {
+        cells: count,
+        words: packed,
+    })
 }
 
 // The build of an accepted list.
@@ -127,51 +105,48 @@ fn build_accepted(
     bound: u32,
     start: u32,
     top: u32,
-    given: Given,
+    given: Option<u32>,
     records: &[u32],
     work: &mut [u32],
     cells: &mut [u32],
     words: &mut [u16],
-) -> Built
+) -> Result<Written, Refusal>
     requires { Listed bound start records.now (length work.old) }
-    ensures { record { outcome = built_outcome result; outputs = cells.new ∷ words.new ∷ [] } ≡ built first_repeat bound start top (given_length given) records.now cells.old words.old }
+    ensures { record { outcome = answered written_counts result; outputs = cells.new ∷ words.new ∷ [] } ≡ built first_repeat bound start top given records.now cells.old words.old }
 {
     let end = end_of_list(records, start);
     let first = read_list(records, first_repeat, bound, start, end, work);
-    let length = length_of(given, start, end);
+    let length = given.unwrap_or(end.saturating_sub(start));
     write_result(work, top, start, length, first, cells, words)
 }
 
-// The build: the refusals of the check, then 12 and 13 by the size of the result. What the work slice held decides nothing.
+// The build: the refusals of the check, then 12 and 13 by the size of the result. `given` is the length of the whole tree; without one it
+// is the last child's end. What the work slice held decides nothing.
 pub fn build(
     types: u32,
     first_repeat: u32,
     bound: u32,
     start: u32,
     top: u32,
-    given: Given,
+    given: Option<u32>,
     records: &[u32],
     work: &mut [u32],
     cells: &mut [u32],
     words: &mut [u16],
-) -> Built
-    ensures { record { outcome = built_outcome result; outputs = cells.new ∷ words.new ∷ [] } ≡ build_call types first_repeat bound start top (given_length given) (length work.old) records.now cells.old words.old }
+) -> Result<Written, Refusal>
+    ensures { record { outcome = answered written_counts result; outputs = cells.new ∷ words.new ∷ [] } ≡ build_call types first_repeat bound start top given (length work.old) records.now cells.old words.old }
 {
-    match records::check(types, first_repeat, bound, start, top, records, work) {
-        records::Checked::Refused(number, place) => Built::Refused(number, place as usize),
-        records::Checked::Records(count) => {
-            let front = &mut work[..96 * (count as usize) + 96];
-            build_accepted(
-                first_repeat,
-                bound,
-                start,
-                top,
-                given,
-                records,
-                front,
-                cells,
-                words,
-            )
-        }
-    }
+    let count = records::check(types, first_repeat, bound, start, top, records, work)?;
+    let front = &mut work[..96 * count + 96];
+    build_accepted(
+        first_repeat,
+        bound,
+        start,
+        top,
+        given,
+        records,
+        front,
+        cells,
+        words,
+    )
 }

@@ -6,3 +6,4 @@ pub mod Testing
 pub mod Links
 pub mod Walking
 pub mod Passing
+mod Naming

@@ -7,6 +7,9 @@ use native.Mathlib.Omega.{arith}
 use lib.Dec.{ltb, leb}
 use lib.ListN.{length, get_or, set, length-set}
 use Rattle.words.specs.Words.{start_of, end_of, last_of}
+use Rattle.std.specs.declared.result.Result.{Result}
+use Rattle.words.specs.declared.refusal.PackedFault.{PackedFault}
+use Rattle.part.specs.Part.{fault}
 use Rattle.part.specs.Open.{Stack, Passed, Tested}
 use Rattle.part.specs.Rebased.{rebased}
 use Rattle.part.specs.declared.Progress.{Progress}
@@ -34,7 +37,7 @@ unfolding rings
 none_around T l ws ends work at = refl
 
 pub going_start : (T l : ℕ) (ws : List ℕ) (at : ℕ) (ends work : List ℕ) → T ≤ 65536 → length ws % 4 ≡ 0 → Room (length ws) at (length ends) (length work)
-    → Going T l ws at ends work ends work (record { fault = 0; top = 0; greatest = 0; deepest = 0 }) 0 0
+    → Going T l ws at ends work ends work (record { top = 0; greatest = 0; deepest = 0 }) 0 0
 going_start T l ws at ends work t whole r = record {
   turn = omega arith;
   ends_long = refl;
@@ -46,7 +49,7 @@ going_start T l ws at ends work t whole r = record {
 }
 
 -- the part itself is its words with end indices counted from 0
-pub as_itself : (T : ℕ) (ws : List ℕ) (i : ℕ) (ends ends' : List ℕ) (s r : Progress) → length ws % 4 ≡ 0
+pub as_itself : (T : ℕ) (ws : List ℕ) (i : ℕ) (ends ends' : List ℕ) (s : Progress) (r : Result Progress PackedFault) → length ws % 4 ≡ 0
     → Tested (rebased 0 0 ws) T i ends ends' s r → Tested ws T i ends ends' s r
 as_itself T ws i ends ends' s r whole h = subst (λ v. Tested v T i ends ends' s r) (rebased_none ws whole) h
 
@@ -59,20 +62,17 @@ module _ (T l : ℕ) (ws : List ℕ) (at : ℕ) (ends₀ work₀ ends work : Lis
       sym (g.left ∙ (checks_end T l ws i low (rings ends work at s.top) (omega arith) h
       ∙ ap (λ (y : ℕ). leb y l) (sym (counted_greatest ws i s.greatest s.deepest g.counted h))))
 
-  module _ (here : i < length ws / 4) (ends' : List ℕ) (r : Progress) (d : Tested ws T i ends ends' s r) where
+  module _ (here : i < length ws / 4) where
     abbrev outer : List Around
     outer = rings ends work at s.top
 
     inside : i * 4 + 4 ≤ length ws
     inside = omega arith
 
-    pub faulty : (r.fault ≡ 0 → ⊥) → false ≡ part_kept T l ws
-    faulty h = sym (g.left ∙ refuse_fault T l ws i low outer inside (λ e. h (d.fault_is ∙ e)))
+    pub faulty : (fault ws T i ≡ 0 → ⊥) → false ≡ part_kept T l ws
+    faulty h = sym (g.left ∙ refuse_fault T l ws i low outer inside h)
 
-    module _ (ok : r.fault ≡ 0) where
-      abbrev p : Passed ws i ends ends' s r
-      p = d.passed ok
-
+    module _ (ends' : List ℕ) (r : Progress) (clear : fault ws T i ≡ 0) (p : Passed ws i ends ends' s r) where
       abbrev t : ℕ
       t = r.top - 1
 
@@ -109,7 +109,7 @@ module _ (T l : ℕ) (ws : List ℕ) (at : ℕ) (ends₀ work₀ ends work : Lis
             let top : t + 1 ≡ r.top = omega (arith, p.top_is) in
             let held : ends' ≡ set ends t (last_of ws i) = p.ends_are ∙ ap (λ (k : ℕ). set ends k (last_of ws i)) (sym still_is) in
             let pushed = rings_push ends work at t (last_of ws i) (end_of ws i) (omega (arith, still_is, p.room)) fits in
-            go_on T l ws i low outer inside (sym d.fault_is ∙ ok) (inside_is ∙ within) (omega (arith, start_is))
+            go_on T l ws i low outer inside clear (inside_is ∙ within) (omega (arith, start_is))
             ∙ (ap (λ (o : List Around). checks T l ws (i + 1) (start_of ws i) (record { stop = last_of ws i; end = end_of ws i } ∷ o)) around
             ∙ (ap (checks T l ws (i + 1) (start_of ws i)) (sym pushed)
             ∙ rw (top, held)))

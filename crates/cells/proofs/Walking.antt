@@ -3,7 +3,7 @@ use mathlib.Core.Path.{◌≡◌, refl, sym, ap, ap₂, subst, ◌∙◌}
 use mathlib.Core.Bool.{Bool, true, false, ◌&&◌, ◌||◌, not, cond, true≢false}
 use mathlib.Core.Logic.{◌⊎◌, inl, inr, ⊎_elim}
 use mathlib.Core.List.{List, [], ◌∷◌}
-use mathlib.Core.Option.{Option, none, some}
+use Rattle.std.specs.Prelude.{Option, None, Some}
 use Prim.Native.Nat.{ℕ, zero, suc, ◌+◌, ◌-◌, ◌*◌, ◌/◌, ◌%◌, ◌≤◌, ◌<◌}
 use native.Mathlib.Omega.{arith}
 use native.Mathlib.Numerals.{add-one}
@@ -14,7 +14,7 @@ use lib.ListN.{length, get_or, drop, drop_of_length-le}
 use Rattle.tree.specs.Cells.{cell_width}
 use Rattle.rules.specs.Cell.{Cell, cells_of, is_part, first_child}
 use Rattle.rules.specs.Lowest.{chain, chains, Named, named, top_broken, kind_broken, id_broken, link_broken, count_broken, place_broken, order_broken, inside_broken, end_broken, part_broken, stray_broken, broken, next_named, first_named, words_end, lowest_from, top_named, bad_cell}
-use Rattle.cells.specs.Steps.{cell_at, followed, Lengths, Last, Front, own_test, count_test, range_test, stray_test, cell_test}
+use Rattle.cells.specs.Steps.{cell_at, followed, Lengths, Last, Front, own_test, count_test, range_test, stray_test, cell_test, cell_or_none}
 use Rattle.cells.specs.Open.{width, Held, Under, Rising, Names, Clash, Stack, Over, Put, Pushed, due}
 use Rattle.rules.proofs.Tests.{neither}
 use Rattle.rules.proofs.Keeping.{Keeps, keeps, none_broken}
@@ -71,9 +71,9 @@ module _ (T : ℕ) (ws : List ℕ) (n : ℕ) where
       let (x, y) = neither (ltb (width d.within) (k.position + k.len)) _ b in
       (a, go d.within x, last (ℕ_discrete i 0) y)
     where
-      go : (o : Option ℕ) → ltb (width o) (k.position + k.len) ≡ false → elim o [ none ↦ false | some l ↦ ltb l (k.position + k.len) ] ≡ false
-      go none x = refl
-      go (some l) x = x
+      go : (o : Option ℕ) → ltb (width o) (k.position + k.len) ≡ false → elim o [ None ↦ false | Some l ↦ ltb l (k.position + k.len) ] ≡ false
+      go None x = refl
+      go (Some l) x = x
 
       last : Dec (i ≡ 0) → not (eqb i 0) && ltb 4294967295 (d.base + (k.position + k.len)) ≡ false → not (eqb (suc i) 1) && ltb 4294967295 (d.base + (k.position + k.len)) ≡ false
       last (yes e) y = rw (eq-eqb (suc i) 1 (omega arith))
@@ -92,16 +92,16 @@ module _ (T : ℕ) (ws : List ℕ) (n : ℕ) where
           let zero_at : k.position ≡ 0 = eqb-true k.position 0 (not-false _ u) in
           or_false (ltb (width d.within) (k.position + k.len)) _ (wide d.within b zero_at) (rw (eq-eqb i 0 z))
         where
-          wide : (o : Option ℕ) → elim o [ none ↦ false | some l ↦ ltb l (k.position + k.len) ] ≡ false → k.position ≡ 0 → ltb (width o) (k.position + k.len) ≡ false
-          wide none x y = le-ltb 4294967295 (k.position + k.len) (omega arith)
-          wide (some l) x y = x
+          wide : (o : Option ℕ) → elim o [ None ↦ false | Some l ↦ ltb l (k.position + k.len) ] ≡ false → k.position ≡ 0 → ltb (width o) (k.position + k.len) ≡ false
+          wide None x y = le-ltb 4294967295 (k.position + k.len) (omega arith)
+          wide (Some l) x y = x
       go (no z) =
           let e' : ltb 4294967295 (d.base + (k.position + k.len)) ≡ false = rw (ne_eqb (suc i) 1 (λ q. omega arith)) at e in
           or_false (ltb (width d.within) (k.position + k.len)) _ (wide d.within b e') (rw (ne_eqb i 0 z) e')
         where
-          wide : (o : Option ℕ) → elim o [ none ↦ false | some l ↦ ltb l (k.position + k.len) ] ≡ false → ltb 4294967295 (d.base + (k.position + k.len)) ≡ false → ltb (width o) (k.position + k.len) ≡ false
-          wide none x y = le-ltb 4294967295 (k.position + k.len) (omega (arith, ltb-false 4294967295 (d.base + (k.position + k.len)) y))
-          wide (some l) x y = x
+          wide : (o : Option ℕ) → elim o [ None ↦ false | Some l ↦ ltb l (k.position + k.len) ] ≡ false → ltb 4294967295 (d.base + (k.position + k.len)) ≡ false → ltb (width o) (k.position + k.len) ≡ false
+          wide None x y = le-ltb 4294967295 (k.position + k.len) (omega (arith, ltb-false 4294967295 (d.base + (k.position + k.len)) y))
+          wide (Some l) x y = x
 
   -- all tests at once
   module _ (cs held : List ℕ) (i w last : ℕ) (d : Named) (ds : List Named) (q : n * cell_width ≡ length cs) (below : i < n) (lengths : Lengths cs n held) (final : Last cs n last) where
@@ -198,7 +198,7 @@ module _ (T : ℕ) (ws : List ℕ) (n S : ℕ) (cs : List ℕ) where
     pub lengths : Lengths cs n held
     pub same : whole ≡ lowest_from T ws n (suc i) w ds (drop i (cells_of cs))
 
-  due_top : due 1 0 none S [] ≡ top_named S ∷ []
+  due_top : due 1 0 None S [] ≡ top_named S ∷ []
   unfolding due top_named
   due_top = refl
 
@@ -206,7 +206,7 @@ module _ (T : ℕ) (ws : List ℕ) (n S : ℕ) (cs : List ℕ) where
   unfolding width
   walk_start held held' t limit l p =
       let empty : Stack held n 0 (n + 1) [] = record { size = refl; held_are = tt; rising = tt; most = omega arith; clash = λ h. absurd (omega arith) } in
-      let s = subst (Stack held' n t limit) due_top (p.stack [] none refl empty) in
+      let s = subst (Stack held' n t limit) due_top (p.stack [] None refl empty) in
       record {
         ds = top_named S ∷ [];
         stack = s;
@@ -401,14 +401,14 @@ module _ (T : ℕ) (ws : List ℕ) (n S : ℕ) (cs : List ℕ) where
             next_is d k ds = refl
 
             inner_width : ℕ → ℕ → Option ℕ
-            inner_width j l = elim (eqb j 1) [ true ↦ none | false ↦ some l ]
+            inner_width j l = elim (eqb j 1) [ true ↦ None | false ↦ Some l ]
 
             first_is : (d : Named) (k : Cell) (ds : List Named) → first_named (suc i) d k ds ≡ due (first_child k) 0 (inner_width (suc i) k.len) (d.base + k.position) ds
             unfolding first_named due first_child inner_width
             first_is d k ds = go (is_part k)
               where
-                go : (p : Bool) → ◌≡◌ {A = List Named} (elim (eqb (elim p [ true ↦ 0 | false ↦ k.first ]) 0) [ true ↦ ds | false ↦ record { cell = k.first; after = 0; within = elim (eqb (suc i) 1) [ true ↦ none | false ↦ some k.len ]; base = d.base + k.position } ∷ ds ])
-                    (elim (eqb (elim p [ true ↦ 0 | false ↦ k.first ]) 0) [ true ↦ ds | false ↦ record { cell = elim p [ true ↦ 0 | false ↦ k.first ]; after = 0; within = elim (eqb (suc i) 1) [ true ↦ none | false ↦ some k.len ]; base = d.base + k.position } ∷ ds ])
+                go : (p : Bool) → ◌≡◌ {A = List Named} (elim (eqb (elim p [ true ↦ 0 | false ↦ k.first ]) 0) [ true ↦ ds | false ↦ record { cell = k.first; after = 0; within = elim (eqb (suc i) 1) [ true ↦ None | false ↦ Some k.len ]; base = d.base + k.position } ∷ ds ])
+                    (elim (eqb (elim p [ true ↦ 0 | false ↦ k.first ]) 0) [ true ↦ ds | false ↦ record { cell = elim p [ true ↦ 0 | false ↦ k.first ]; after = 0; within = elim (eqb (suc i) 1) [ true ↦ None | false ↦ Some k.len ]; base = d.base + k.position } ∷ ds ])
                 go true = refl
                 go false = refl
 
@@ -416,9 +416,9 @@ module _ (T : ℕ) (ws : List ℕ) (n S : ℕ) (cs : List ℕ) where
             unfolding inner_width width
             width_is l = go (ℕ_discrete i 0)
               where
-                go : Dec (i ≡ 0) → width (elim (eqb (suc i) 1) [ true ↦ none | false ↦ some l ]) ≡ cond (eqb i 0) 4294967295 l
-                go (yes e) = ap (λ b. width (elim b [ true ↦ none | false ↦ some l ])) (eq-eqb (suc i) 1 (omega arith)) ∙ sym (ap (λ b. cond b 4294967295 l) (eq-eqb i 0 e))
-                go (no e) = ap (λ b. width (elim b [ true ↦ none | false ↦ some l ])) (ne_eqb (suc i) 1 (λ z. omega arith)) ∙ sym (ap (λ b. cond b 4294967295 l) (ne_eqb i 0 e))
+                go : Dec (i ≡ 0) → width (elim (eqb (suc i) 1) [ true ↦ None | false ↦ Some l ]) ≡ cond (eqb i 0) 4294967295 l
+                go (yes e) = ap (λ b. width (elim b [ true ↦ None | false ↦ Some l ])) (eq-eqb (suc i) 1 (omega arith)) ∙ sym (ap (λ b. cond b 4294967295 l) (eq-eqb i 0 e))
+                go (no e) = ap (λ b. width (elim b [ true ↦ None | false ↦ Some l ])) (ne_eqb (suc i) 1 (λ z. omega arith)) ∙ sym (ap (λ b. cond b 4294967295 l) (ne_eqb i 0 e))
 
             -- without the latest link, after the part check has used the words from m on
             popped : (held₁ : List ℕ) (m : ℕ) → n + (top - 1) * 4 ≤ m → Front m held held₁ → Stack held₁ n (top - 1) limit latest.older
@@ -494,16 +494,16 @@ module _ (T S : ℕ) (cs ws : List ℕ) where
   lowest = lowest_from T ws (length (cells_of cs)) 1 0 (top_named S ∷ []) (cells_of cs)
 
   abbrev Answer : (x y : Bool) (r : ℕ) → Option ℕ
-  Answer x y r = elim (x || not y) [ true ↦ some 0 | false ↦ elim r [ zero ↦ none | suc c ↦ some (suc c) ] ]
+  Answer x y r = elim (x || not y) [ true ↦ Some 0 | false ↦ elim r [ zero ↦ None | suc c ↦ Some (suc c) ] ]
 
   answers : (x y : Bool) (r : ℕ) (a b : Bool) (v : ℕ) → x ≡ a → y ≡ b → r ≡ v → Answer x y r ≡ Answer a b v
   answers x y r a b v e f g = rw (e, f, g)
 
-  pub bad_empty : length cs ≡ 0 → some 0 ≡ bad_cell T S cs ws
+  pub bad_empty : length cs ≡ 0 → Some 0 ≡ bad_cell T S cs ws
   unfolding bad_cell
   bad_empty h = sym (answers (eqb (length cs) 0) (eqb (length cs % cell_width) 0) lowest true (eqb (length cs % cell_width) 0) lowest (eq-eqb (length cs) 0 h) refl refl)
 
-  pub bad_ragged : (length cs ≡ 0 → ⊥) → (length cs % cell_width ≡ 0 → ⊥) → some 0 ≡ bad_cell T S cs ws
+  pub bad_ragged : (length cs ≡ 0 → ⊥) → (length cs % cell_width ≡ 0 → ⊥) → Some 0 ≡ bad_cell T S cs ws
   unfolding bad_cell
   bad_ragged a h = sym (answers (eqb (length cs) 0) (eqb (length cs % cell_width) 0) lowest false false lowest (ne_eqb (length cs) 0 a) (ne_eqb (length cs % cell_width) 0 h) refl)
 
@@ -511,14 +511,10 @@ module _ (T S : ℕ) (cs ws : List ℕ) where
     number : lowest_from T ws (length (cells_of cs)) 1 0 (top_named S ∷ []) (cells_of cs) ≡ r
     number = ap (λ m. lowest_from T ws m 1 0 (top_named S ∷ []) (cells_of cs)) (length_cells cs ∙ sym size) ∙ sym is
 
-    pub bad_none : r ≡ 0 → none ≡ bad_cell T S cs ws
-    unfolding bad_cell
-    bad_none z = sym (answers (eqb (length cs) 0) (eqb (length cs % cell_width) 0) lowest false true 0 (ne_eqb (length cs) 0 a) (eq-eqb (length cs % cell_width) 0 b) (number ∙ z))
-
-    pub bad_some : (r ≡ 0 → ⊥) → some r ≡ bad_cell T S cs ws
-    unfolding bad_cell
-    bad_some z = positive r z ∙ sym (answers (eqb (length cs) 0) (eqb (length cs % cell_width) 0) lowest false true r (ne_eqb (length cs) 0 a) (eq-eqb (length cs % cell_width) 0 b) number)
+    pub bad_named : cell_or_none r ≡ bad_cell T S cs ws
+    unfolding bad_cell cell_or_none
+    bad_named = chosen r ∙ sym (answers (eqb (length cs) 0) (eqb (length cs % cell_width) 0) lowest false true r (ne_eqb (length cs) 0 a) (eq-eqb (length cs % cell_width) 0 b) number)
       where
-        positive : (r : ℕ) → (r ≡ 0 → ⊥) → ◌≡◌ {A = Option ℕ} (some r) (elim r [ zero ↦ none | suc c ↦ some (suc c) ])
-        positive zero z = absurd (z refl)
-        positive (suc c) z = refl
+        chosen : (r : ℕ) → cell_or_none r ≡ elim r [ zero ↦ None | suc c ↦ Some (suc c) ]
+        chosen zero = refl
+        chosen (suc c) = refl

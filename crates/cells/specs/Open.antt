@@ -1,6 +1,6 @@
 -- The open links in the work slice, as the functions that read and write them promise each other. Only internal functions cite these.
 use Rattle.std.specs.Prelude.{◌≡◌, Bool, true, false, ◌&&◌, not, cond, List, [], ◌∷◌, ◌⊎◌, ℕ, suc, ◌+◌, ◌-◌, ◌*◌, ◌≤◌, ◌<◌, ltb, eqb, length, get_or, set}
-use Rattle.std.proofs.Math.Option.{Option, none, some}
+use Rattle.std.specs.Prelude.{Option, None, Some}
 use Rattle.rules.specs.Cell.{Cell, first_child}
 use Rattle.rules.specs.Lowest.{Named}
 use Rattle.cells.specs.Steps.{Front}
@@ -11,8 +11,8 @@ put4 held at a b c d = set (set (set (set held at a) (at + 1) b) (at + 2) c) (at
 
 -- the word for a parent's length: the top bounds its children by nothing but 32 bits
 unfoldable pub width : Option ℕ → ℕ
-width none = 4294967295
-width (some l) = l
+width None = 4294967295
+width (Some l) = l
 
 -- named cells in `held` from word n on, four words each, the oldest first
 abbrev pub Held : List ℕ → (n : ℕ) → List Named → Type 0

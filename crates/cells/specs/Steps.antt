@@ -1,6 +1,6 @@
 -- The tree check's tests on words, and what its functions promise each other. Only internal functions cite these; the laws in proofs/ tie
 -- them to crate `rules`.
-use Rattle.std.specs.Prelude.{◌≡◌, Bool, false, ◌&&◌, ◌||◌, not, cond, List, ℕ, ◌+◌, ◌-◌, ◌*◌, ◌≤◌, ◌<◌, ltb, leb, eqb, length, get_or, drop}
+use Rattle.std.specs.Prelude.{◌≡◌, Bool, false, ◌&&◌, ◌||◌, not, cond, List, ℕ, zero, suc, Option, None, Some, ◌+◌, ◌-◌, ◌*◌, ◌≤◌, ◌<◌, ltb, leb, eqb, length, get_or, drop}
 use Rattle.tree.specs.Cells.{cell_width, cell_kind, cell_id, cell_position, cell_length, cell_first, cell_count, cell_next}
 use Rattle.rules.specs.Cell.{Cell, cells_of, first_child}
 use Rattle.rules.specs.Lowest.{chains, any_part, top_broken, kind_broken, id_broken, link_broken, part_broken}
@@ -17,10 +17,10 @@ cell_at cs i = record {
   next = cell_next cs i;
 }
 
--- a 32-bit word at a wider type, with its bound
-pub record Word (x r : ℕ) : Type 0 where
-  pub same : r ≡ x
-  pub small : r < 4294967296
+-- a cell by its number, 0 for none
+unfoldable pub cell_or_none : ℕ → Option ℕ
+cell_or_none zero = None
+cell_or_none (suc c) = Some (suc c)
 
 -- the length of the chain that the link x of cell c begins, by the lengths in `held`; n cells
 unfoldable pub followed : List ℕ → (n c x : ℕ) → ℕ

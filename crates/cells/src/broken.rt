@@ -8,10 +8,11 @@ ghost use Rattle.cells.specs.Parts.{Room};
 
 use crate::linking::follow;
 use crate::parts::{part_broken, stray_broken};
-use crate::{CellWords, Link, Setting, index};
+use crate::{Link, Setting};
+use tree::Cell;
 
 // "Cell 1 is the top, kind 1, position 0, next 0."
-fn top_broken(i: usize, k: CellWords) -> bool
+fn top_broken(i: usize, k: Cell) -> bool
     ensures { result ≡ top_broken (i + 1) (cell_of k) }
 {
     if i != 0 {
@@ -27,7 +28,7 @@ fn top_broken(i: usize, k: CellWords) -> bool
 }
 
 // A kind that there is not.
-fn kind_broken(k: CellWords) -> bool
+fn kind_broken(k: Cell) -> bool
     ensures { result ≡ kind_broken (cell_of k) }
 {
     if k.kind == 1 {
@@ -40,7 +41,7 @@ fn kind_broken(k: CellWords) -> bool
 }
 
 // "Ids are below T", 0 for kinds 2 and 3.
-fn id_broken(types: u32, k: CellWords) -> bool
+fn id_broken(types: u32, k: Cell) -> bool
     ensures { result ≡ id_broken types (cell_of k) }
 {
     if k.kind == 1 {
@@ -56,7 +57,7 @@ fn link_broken(n: usize, c: usize, x: u32) -> bool
     if x == 0 {
         return false;
     }
-    let to = index(x);
+    let to = x as usize;
     if to <= c {
         return true;
     }
@@ -64,7 +65,7 @@ fn link_broken(n: usize, c: usize, x: u32) -> bool
 }
 
 // The first child's cell; a part has none.
-pub fn first_child(k: CellWords) -> u32
+pub fn first_child(k: Cell) -> u32
     ensures { result ≡ first_child (cell_of k) }
 {
     if k.kind == 2 {
@@ -74,7 +75,7 @@ pub fn first_child(k: CellWords) -> u32
 }
 
 // The rules that cell i + 1 breaks by itself: top, kind, id, links.
-fn own_broken(k: CellWords, g: Setting, i: usize) -> bool
+fn own_broken(k: Cell, g: Setting, i: usize) -> bool
     requires { i < g.n }
     ensures { result ≡ own_test g.types g.n i (cell_of k) }
 {
@@ -94,7 +95,7 @@ fn own_broken(k: CellWords, g: Setting, i: usize) -> bool
 }
 
 // "A chain has count cells."
-fn count_broken(k: CellWords, n: usize, i: usize, work: &[u32]) -> bool
+fn count_broken(k: Cell, n: usize, i: usize, work: &[u32]) -> bool
     requires { (i < n) × (n ≤ length work.now) }
     ensures { result ≡ count_test work.now n i (cell_of k) }
 {
@@ -105,25 +106,25 @@ fn count_broken(k: CellWords, n: usize, i: usize, work: &[u32]) -> bool
 }
 
 // Order, the parent's end and the absolute end, by the link that names cell i + 1.
-fn range_broken(i: usize, k: CellWords, d: Link) -> bool
-    ensures { result ≡ range_test i k.position k.len d.after d.within d.base }
+fn range_broken(i: usize, k: Cell, d: Link) -> bool
+    ensures { result ≡ range_test i k.position k.length d.after d.within d.base }
 {
     if k.position < d.after {
         return true;
     }
-    let end = index(k.position) + index(k.len);
-    if index(d.within) < end {
+    let end = k.position as usize + k.length as usize;
+    if (d.within as usize) < end {
         return true;
     }
     if i == 0 {
         return false;
     }
-    4294967295 < index(d.base) + end
+    (u32::MAX as usize) < d.base as usize + end
 }
 
 // Does cell i + 1 break a rule other than its place? d is the link that names it.
 pub fn cell_broken(
-    k: CellWords,
+    k: Cell,
     words: &[u16],
     g: Setting,
     i: usize,

@@ -6,15 +6,15 @@ ghost use Rattle.cells.specs.Steps.{followed, Lengths};
 ghost use Rattle.cells.specs.Open.{in_place, lowered, ReadLink, Put, Pushed};
 
 use crate::broken::first_child;
-use crate::{CellWords, Link, MOST, Names, index};
-use tree::{CELL_WIDTH, NEXT};
+use crate::{Link, Names};
+use tree::{CELL_WIDTH, Cell, NEXT};
 
 // How many cells stand on the chain that the link x of cell c begins, by the lengths at the front of `work`.
 pub fn follow(work: &[u32], n: usize, c: usize, x: u32) -> u32
     requires { n ≤ length work.now }
     ensures { result ≡ followed work.now n c x }
 {
-    let to = index(x);
+    let to = x as usize;
     if to <= c {
         return 0;
     }
@@ -30,11 +30,9 @@ pub fn chain_lengths(cells: &[u32], n: usize, work: &mut [u32])
     requires n_in_bounds { n ≤ length work.old }
     ensures { Lengths cells.now n work.new }
 {
-    let mut c = n;
-    while 0 < c {
+    for c in (1..=n).rev() {
         let length = follow(&*work, n, c, cells[(c - 1) * CELL_WIDTH + NEXT]);
         work[c - 1] = length + 1;
-        c -= 1;
     }
 }
 
@@ -47,8 +45,8 @@ fn lower(work: &[u32], n: usize, s: Names, x: u32) -> usize
     if s.top == 0 {
         return s.limit;
     }
-    let m = index(work[n + (s.top - 1) * 4]);
-    if index(x) < m {
+    let m = work[n + (s.top - 1) * 4] as usize;
+    if (x as usize) < m {
         return s.limit;
     }
     if m < s.limit {
@@ -66,11 +64,7 @@ pub fn name_if(work: &mut [u32], n: usize, s: Names, x: u32, d: Link) -> Names
         return s;
     }
     let limit = lower(&*work, n, s, x);
-    let at = n + s.top * 4;
-    work[at] = x;
-    work[at + 1] = d.after;
-    work[at + 2] = d.within;
-    work[at + 3] = d.base;
+    words::put(work, n + s.top * 4, &[x, d.after, d.within, d.base]);
     Names {
         top: s.top + 1,
         limit,
@@ -82,26 +76,26 @@ fn inner_width(i: usize, len: u32) -> u32
     ensures { result ≡ cond (eqb i 0) 4294967295 len }
 {
     if i == 0 {
-        return MOST;
+        return u32::MAX;
     }
     len
 }
 
 // Puts on what cell i + 1 names, by next and by first. d is the link that named it.
-pub fn push_names(work: &mut [u32], n: usize, i: usize, s: Names, k: CellWords, d: Link) -> Names
+pub fn push_names(work: &mut [u32], n: usize, i: usize, s: Names, k: Cell, d: Link) -> Names
     requires top_in_bounds { n + s.top * 4 + 8 ≤ length work.old }
-    requires len_bound { (k.position + k.len ≤ 4294967295) × (d.base + k.position ≤ 4294967295) }
+    requires len_bound { (k.position + k.length ≤ 4294967295) × (d.base + k.position ≤ 4294967295) }
     ensures { Pushed work.old work.new n i s.top s.limit result.top result.limit (cell_of k) d.within d.base }
 {
     let beside = Link {
-        after: k.position + k.len,
+        after: k.position + k.length,
         within: d.within,
         base: d.base,
     };
     let later = name_if(work, n, s, k.next, beside);
     let below = Link {
         after: 0,
-        within: inner_width(i, k.len),
+        within: inner_width(i, k.length),
         base: d.base + k.position,
     };
     name_if(work, n, later, first_child(k), below)
@@ -118,7 +112,7 @@ pub fn placed(work: &[u32], n: usize, s: Names, c: usize) -> bool
     if s.top == 0 {
         return false;
     }
-    index(work[n + (s.top - 1) * 4]) == c
+    work[n + (s.top - 1) * 4] as usize == c
 }
 
 // What the latest of `top` links says.

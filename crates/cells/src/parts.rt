@@ -7,8 +7,9 @@ ghost use Rattle.cells.specs.Read.{cell_of};
 ghost use Rattle.cells.specs.Steps.{Last, Front, stray_test};
 ghost use Rattle.cells.specs.Parts.{past_parent, Room};
 
-use crate::{CellWords, Setting, index};
-use tree::{CELL_WIDTH, KIND};
+use crate::Setting;
+use part::Progress;
+use tree::{CELL_WIDTH, Cell, KIND};
 use words::RECORD_WIDTH;
 
 // The number of the last part's cell, 0 for none.
@@ -16,12 +17,10 @@ pub fn last_part(cells: &[u32], n: usize) -> usize
     requires { n * cell_width ≡ length cells.now }
     ensures { Last cells.now n result }
 {
-    let mut last = n;
-    while 0 < last {
+    for last in (1..=n).rev() {
         if cells[(last - 1) * CELL_WIDTH + KIND] == 2 {
             return last;
         }
-        last -= 1;
     }
     0
 }
@@ -66,23 +65,15 @@ fn part_kept(
     if part.len() % RECORD_WIDTH != 0 {
         return false;
     }
-    let n = part.len() / RECORD_WIDTH;
-    let mut s = part::Progress {
-        fault: 0,
-        top: 0,
-        greatest: 0,
-        deepest: 0,
-    };
+    let mut s = Progress::START;
     let mut low: u32 = 0;
-    let mut i: usize = 0;
-    while i < n {
-        let next = part::check_record(part, types, 0, i, ends, s);
-        if next.fault != 0 {
+    for i in 0..part.len() / RECORD_WIDTH {
+        let Ok(next) = part::check_record(part, types, 0, i, ends, s) else {
             return false;
-        }
+        };
         let t = next.top - 1;
-        let start = words::word(part[i * RECORD_WIDTH + 1]);
-        let end = words::word(part[i * RECORD_WIDTH + 2]);
+        let start = u32::from(part[i * RECORD_WIDTH + 1]);
+        let end = u32::from(part[i * RECORD_WIDTH + 2]);
         if past_parent(&*work, at, t, end) {
             return false;
         }
@@ -92,13 +83,12 @@ fn part_kept(
         work[at + t] = end;
         s = next;
         low = start;
-        i += 1;
     }
-    words::word(s.greatest) <= len
+    u32::from(s.greatest) <= len
 }
 
 // Words after the last part: against that part's cell, or cell 1.
-pub fn stray_broken(size: usize, g: Setting, i: usize, k: CellWords) -> bool
+pub fn stray_broken(size: usize, g: Setting, i: usize, k: Cell) -> bool
     requires { i < g.n }
     ensures { result ≡ stray_test size i g.last (cell_of k) }
 {
@@ -106,7 +96,7 @@ pub fn stray_broken(size: usize, g: Setting, i: usize, k: CellWords) -> bool
         return false;
     }
     if k.kind == 2 {
-        return index(k.first) + index(k.count) != size;
+        return k.first as usize + k.count as usize != size;
     }
     if i != 0 {
         return false;
@@ -117,7 +107,7 @@ pub fn stray_broken(size: usize, g: Setting, i: usize, k: CellWords) -> bool
 // Does the part of a cell not abut, not fit or not keep its rules? The parts before it end at the word w; `work` is used from
 // `at` on.
 pub fn part_broken(
-    k: CellWords,
+    k: Cell,
     words: &[u16],
     types: u32,
     w: usize,
@@ -133,24 +123,24 @@ pub fn part_broken(
     if k.kind != 2 {
         return false;
     }
-    let first = index(k.first);
+    let first = k.first as usize;
     if first != w {
         return true;
     }
-    let end = first + index(k.count);
+    let end = first + k.count as usize;
     if words.len() < end {
         return true;
     }
     let part = &words[first..end];
-    !part_kept(part, types, k.len, ends, work, at)
+    !part_kept(part, types, k.length, ends, work, at)
 }
 
 // Where the parts up to this cell end.
-pub fn words_end(k: CellWords, w: usize) -> usize
+pub fn words_end(k: Cell, w: usize) -> usize
     ensures { result ≡ words_end w (cell_of k) }
 {
     if k.kind == 2 {
-        return index(k.first) + index(k.count);
+        return k.first as usize + k.count as usize;
     }
     w
 }

@@ -1,4 +1,3 @@
 pub mod Spelled
 pub mod Start
 pub mod Back
-pub mod Own

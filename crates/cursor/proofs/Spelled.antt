@@ -2,7 +2,7 @@
 use mathlib.Core.Path.{◌≡◌, refl}
 use mathlib.Core.Bool.{Bool, true, false, cond}
 use mathlib.Core.List.{List}
-use mathlib.Core.Option.{Option}
+use Rattle.std.specs.Prelude.{Option}
 use Prim.Native.Nat.{ℕ, zero, suc, ◌+◌, ◌-◌, ◌*◌, ◌≤◌, ◌<◌}
 use native.Mathlib.Omega.{arith}
 use borrow.Author.Tests.{le-leb, lt-leb, ltb-true, ltb-false}
@@ -24,7 +24,7 @@ unfolding skips
 skips_last F w zero h = absurd (omega arith)
 skips_last F w (suc p) h = let e : suc p - 1 ≡ p = omega arith in rw e
 
-at_most_four : (b : Bool) → cond b 4 0 ≤ 4
+pub at_most_four : (b : Bool) → cond b 4 0 ≤ 4
 at_most_four true = omega arith
 at_most_four false = omega arith
 

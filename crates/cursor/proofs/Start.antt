@@ -2,10 +2,9 @@
 use mathlib.Core.Path.{◌≡◌, refl, sym, ap, ◌∙◌}
 use mathlib.Core.Bool.{Bool, true, false}
 use mathlib.Core.List.{List, [], ◌∷◌, ◌++◌, append_assoc, append-nil}
-use mathlib.Core.Option.{Option, none, some}
+use Rattle.std.specs.Prelude.{Option, None, Some}
 use Prim.Native.Nat.{ℕ, suc, ◌+◌, ◌-◌, ◌*◌, ◌/◌, ◌≤◌}
 use native.Mathlib.Omega.{arith}
-use native.Mathlib.Nat.{le_refl}
 use borrow.Author.Tests.{ltb-false, eqb-true}
 use lib.Dec.{ltb}
 use lib.ListN.{length, get_or, length-append}
@@ -14,12 +13,10 @@ use Rattle.tree.specs.Items.{Items, mark, span, same, repeats, items, records}
 use Rattle.tree.proofs.RecordCounts.{records_items}
 use Rattle.records.specs.Parse.{parse}
 use Rattle.records.specs.Check.{Accepted}
-use Rattle.records.proofs.AcceptLaws.{accepted_list, accepted_nested}
+use Rattle.records.proofs.AcceptLaws.{accepted_list}
 use Rattle.records.proofs.Spelling.{words_of, word_at}
-use Rattle.tree.proofs.ItemLaws.{fits_items, own_none}
 use Rattle.cursor.specs.Spells.{Spells, Marked, Stands}
 use Rattle.cursor.proofs.Spelled.{spells_count}
-use Rattle.tree.specs.Ordered.{Fits}
 
 no_records : records Items.nil ≡ 0
 unfolding records
@@ -27,21 +24,21 @@ no_records = refl
 
 -- the repeat id is one
 abbrev pub Above : (F : ℕ) → Option ℕ → Type 0
-Above F none = Unit {0}
-Above F (some r) = F ≤ r
+Above F None = Unit {0}
+Above F (Some r) = F ≤ r
 
 pub above_repeats : (F i : ℕ) → Above F (repeats F i)
 unfolding repeats
 above_repeats F i = go (ltb i F) refl
   where
-    go : (x : Bool) → ltb i F ≡ x → Above F (elim x [ true ↦ none | false ↦ some i ])
+    go : (x : Bool) → ltb i F ≡ x → Above F (elim x [ true ↦ None | false ↦ Some i ])
     go true e = tt
     go false e = ltb-false i F e
 
 above_same : (F : ℕ) (own : Option ℕ) (i : ℕ) → Above F own → same own i ≡ true → F ≤ i
 unfolding same
-above_same F none i a h = let z : ◌≡◌ {A = ℕ} 0 1 = cc in absurd (omega arith)
-above_same F (some r) i a h = omega (arith, a, eqb-true r i h)
+above_same F None i a h = absurd cc
+above_same F (Some r) i a h = omega (arith, a, eqb-true r i h)
 
 pub marked_items : (F : ℕ) (own : Option ℕ) (f : Forest) (acc : Items) → Above F own → Marked F own acc → Marked F own (items F own f acc)
 unfolding items
@@ -133,18 +130,13 @@ spells_items F w (add before i s e kids) own lo p xs ys acc h l a =
         (spells-≤ w lo (p + count before) (items F own before acc) b) (omega arith) (rw r f) k₂ b
 
 -- An accepted list spells the items of its forest: this is where the build begins.
-pub stands_accepted : (T F b top S : ℕ) (w : List ℕ) → Accepted T b top S w → Stands F none w 0 (length w / 4) (items F none (parse w) Items.nil)
+pub stands_accepted : (T F b top S : ℕ) (w : List ℕ) → Accepted T b top S w → Stands F None w 0 (length w / 4) (items F None (parse w) Items.nil)
 stands_accepted T F b top S w a =
     let e = accepted_list T b top S w a in
     let h : [] ++ (postfix (parse w) ++ []) ≡ w = append-nil (postfix (parse w)) ∙ e in
     let c : 0 + count (parse w) ≡ length w / 4 = omega (arith, words_of (parse w), ap length e) in
     record {
       within = omega (arith, words_of (parse w), ap length e);
-      spells = rw c at (spells_items F w (parse w) none 0 0 [] [] Items.nil h refl refl);
-      marked = marked_items F none (parse w) Items.nil tt tt;
+      spells = rw c at (spells_items F w (parse w) None 0 0 [] [] Items.nil h refl refl);
+      marked = marked_items F None (parse w) Items.nil tt tt;
     }
-
--- and these items are in order and nested
-pub fits_accepted : (T F b top S : ℕ) (w : List ℕ) → S ≤ 4294967295 → Accepted T b top S w → Fits F T S 4294967295 (items F none (parse w) Items.nil)
-fits_accepted T F b top S w h a =
-    fits_items F T none (own_none F) (parse w) S 4294967295 S Items.nil (accepted_nested T b top S w a h) (le_refl S)

@@ -1,2 +1,1 @@
 pub mod Spells
-pub mod Own

@@ -1,7 +1,6 @@
 -- The words of a record list, and the items that they spell: what the functions of the build ask of a place in the list. Nothing
 -- here is needed to read what a call promises.
-use Rattle.std.specs.Prelude.{◌≡◌, true, false, cond, List, ℕ, suc, ◌+◌, ◌-◌, ◌*◌, ◌≤◌, ◌<◌, zero, length, leb}
-use Rattle.std.proofs.Math.Option.{Option}
+use Rattle.std.specs.Prelude.{◌≡◌, true, false, cond, List, ℕ, suc, ◌+◌, ◌-◌, ◌*◌, ◌≤◌, ◌<◌, zero, length, leb, Option}
 use Rattle.tree.specs.Items.{Items, nil, mark, span, same, repeats, records}
 use Rattle.words.specs.Words.{record_width, id_of, start_of, end_of, last_of}
 

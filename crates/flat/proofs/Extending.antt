@@ -2,7 +2,7 @@
 use mathlib.Core.Path.{◌≡◌, refl, sym, ap, ◌∙◌}
 use mathlib.Core.Bool.{Bool, true, false, cond, ◌&&◌, ◌||◌, not}
 use mathlib.Core.List.{List, [], ◌∷◌}
-use mathlib.Core.Option.{Option}
+use Rattle.std.specs.Prelude.{Option}
 use Prim.Native.Nat.{ℕ, ◌+◌, ◌-◌, ◌*◌, ◌≤◌, ◌<◌}
 use native.Mathlib.Omega.{arith}
 use native.Mathlib.Decide.{ℕ_discrete}
@@ -16,6 +16,7 @@ use Rattle.tree.proofs.ShortLaws.{room_none, room_hold}
 use Rattle.flat.specs.Back.{record_at, from_back, held_in, Extends}
 use Rattle.flat.proofs.Back.{hold_none, hold_one, back_step, back_none, held_none, held_step}
 use Rattle.tree.specs.Ordered.{Room}
+use Rattle.flat.specs.declared.Extent.{Extent}
 
 -- nothing held adds nothing
 pub gather_none : (g : Gathered) → gather (flat_part []) g ≡ g
@@ -144,13 +145,14 @@ module _ (w : List ℕ) (p lo b : ℕ) where
   stop_at at = held_end 0 (held_at at) - b
 
   -- the flat part up to the place `at`
-  pub record Extending (at count first end : ℕ) : Type 0 where
+  pub record Extending (at : ℕ) (x : Extent) : Type 0 where
+    pub reached : x.p ≡ at
     pub above : lo ≤ at
     pub below : at ≤ p
-    pub counted : count ≡ length (held_at at)
-    pub ended : end ≡ held_end 0 (held_at at)
-    pub within : 1 ≤ count → first < p
-    pub head : 1 ≤ count → (more : List Record) × (held_at at ≡ record_at w first ∷ more)
+    pub counted : x.count ≡ length (held_at at)
+    pub ended : x.end ≡ held_end 0 (held_at at)
+    pub within : 1 ≤ x.count → x.first < p
+    pub head : 1 ≤ x.count → (more : List Record) × (held_at at ≡ record_at w x.first ∷ more)
     pub room : Room b (held_at at) (stop_at at)
     pub flat_is : (own : Option ℕ) (g : Gathered) → flat b own (from_back w lo (p - lo)) true [] 0 g ≡ flat b own (from_back w lo (at - lo)) true (held_at at) (stop_at at) g
 
@@ -165,8 +167,9 @@ module _ (w : List ℕ) (p lo b : ℕ) where
   unfolding held_end
   no_end = refl
 
-  pub extending_start : (first : ℕ) → lo ≤ p → Extending p 0 first 0
+  pub extending_start : (first : ℕ) → lo ≤ p → Extending p (record { p = p; count = 0; first = first; end = 0 })
   extending_start first l = record {
+    reached = refl;
     above = l;
     below = omega arith;
     counted = rw none_held;
@@ -203,12 +206,29 @@ held_first w p at l =
     let e : p - at ≡ 0 = omega arith in
     rw (e, held_none w at) refl
 
-module _ {w : List ℕ} {p lo b at count first end : ℕ} (h : Extending w p lo b at count first end) where
+module _ {w : List ℕ} {p lo b at : ℕ} {x : Extent} (h : Extending w p lo b at x) where
   abbrev held_here : ℕ → List Record
   held_here = held_at w p lo b
 
   abbrev stop_here : ℕ → ℕ
   stop_here = stop_at w p lo b
+
+  -- the flat part ends here
+  ended_at : (lo < p → at < p)
+      → ((own : Option ℕ) (g : Gathered) → flat b own (from_back w lo (at - lo)) true (held_here at) (stop_here at) g
+      ≡ flat b own (from_back w lo (at - lo)) false [] 0 (gather (flat_part (held_here at)) g))
+      → Extends w p lo b x
+  ended_at l q = record {
+    above = omega (arith, h.above, h.reached);
+    below = omega (arith, h.below, h.reached);
+    further = λ k. omega (arith, l k, h.reached);
+    counted = rw h.reached h.counted;
+    ended = rw h.reached h.ended;
+    within = h.within;
+    head = rw h.reached h.head;
+    room = rw h.reached h.room;
+    flat_is = λ own g. rw h.reached (h.flat_is own g ∙ q own g);
+  }
 
   module _ (some_record : lo < at) where
     abbrev i : ℕ
@@ -240,11 +260,12 @@ module _ {w : List ℕ} {p lo b at count first end : ℕ} (h : Extending w p lo 
         ∙ (flat_on b own i s e n (from_back w lo (at - 1 - lo)) (held_here at) (stop_here at) g q
         ∙ rw (stops, step)))
 
-    pub extending_drop : count < 16383 → 4 < n → Extending w p lo b (at - 1) count first end
+    pub extending_drop : x.count < 16383 → 4 < n → Extending w p lo b (at - 1) (record { p = at - 1; count = x.count; first = x.first; end = x.end })
     extending_drop f big =
         let same : held_here (at - 1) ≡ held_here at = step ∙ hold_none i s e n (held_here at) big in
         let q = ends_dropped i s e n (stop_here at) (held_here at) (omega (arith, h.counted)) big in
         record {
+          reached = refl;
           above = omega arith;
           below = omega (arith, h.below);
           counted = h.counted ∙ ap (λ (rs : List Record). length rs) (sym same);
@@ -255,84 +276,50 @@ module _ {w : List ℕ} {p lo b at count first end : ℕ} (h : Extending w p lo 
           flat_is = flat_step q;
         }
 
-    pub extending_hold : (r : ℕ) → count < 16383 → n ≤ 4 → end ≤ s + b → r ≡ cond (eqb count 0) e end → Extending w p lo b (at - 1) (count + 1) (at - 1) r
-    extending_hold r f small near er =
+    pub extending_hold : (r : Extent) → x.count < 16383 → n ≤ 4 → x.end ≤ s + b → r.p ≡ at - 1 → r.count ≡ x.count + 1 → r.first ≡ at - 1 → r.end ≡ cond (eqb x.count 0) e x.end
+        → Extending w p lo b (at - 1) r
+    extending_hold r f small near ep ec ef er =
         let more : held_here (at - 1) ≡ record_at w (at - 1) ∷ held_here at = step ∙ hold_one i s e n (held_here at) small in
         let q = ends_held i s e n (stop_here at) (held_here at) (omega (arith, h.counted)) small (omega (arith, h.ended)) in
         record {
+          reached = ep;
           above = omega arith;
           below = omega (arith, h.below);
           counted = rw more (omega (arith, h.counted));
-          ended = end_held i s e n end count r (held_here at) h.ended h.counted er ∙ ap (λ (rs : List Record). held_end 0 rs) (sym more);
+          ended = end_held i s e n x.end x.count r.end (held_here at) h.ended h.counted er ∙ ap (λ (rs : List Record). held_end 0 rs) (sym more);
           within = λ k. omega (arith, h.below);
-          head = λ k. (held_here at, more);
+          head = λ k. rw ef (held_here at, more);
           room = room_on q;
           flat_is = flat_step q;
         }
 
-    extended : ends (record_at w (at - 1)) (held_here at) (stop_here at) ≡ true → at < p → Extends w p lo b at count first end
-    extended q l = record {
-      above = h.above;
-      below = h.below;
-      further = λ k. l;
-      counted = h.counted;
-      ended = h.ended;
-      within = h.within;
-      head = h.head;
-      room = h.room;
-      flat_is = λ own g. h.flat_is own g ∙ flat_ended w p lo b at own g some_record q;
-    }
+    extended : ends (record_at w (at - 1)) (held_here at) (stop_here at) ≡ true → at < p → Extends w p lo b x
+    extended q l = ended_at (λ k. l) (λ own g. flat_ended w p lo b at own g some_record q)
 
-    pub extended_full : 16383 ≤ count → Extends w p lo b at count first end
-    extended_full f = extended (ends_full i s e n (stop_here at) (held_here at) (omega (arith, h.counted))) (go (ℕ_discrete at p))
-      where
-        go : Dec (at ≡ p) → at < p
-        go (yes z) = let c : count ≡ 0 = h.counted ∙ rw (z, none_held w p lo b) in absurd (omega arith)
-        go (no z) = omega (arith, h.below)
-
-    pub extended_early : n ≤ 4 → s + b < end → Extends w p lo b at count first end
+    pub extended_early : n ≤ 4 → s + b < x.end → Extends w p lo b x
     extended_early small early = extended (ends_early i s e n (stop_here at) (held_here at) small (omega (arith, h.ended))) (go (ℕ_discrete at p))
       where
         go : Dec (at ≡ p) → at < p
-        go (yes z) = let c : end ≡ 0 = h.ended ∙ rw (z, none_held w p lo b) (no_end w p lo b) in absurd (omega arith)
+        go (yes z) = let c : x.end ≡ 0 = h.ended ∙ rw (z, none_held w p lo b) (no_end w p lo b) in absurd (omega arith)
         go (no z) = omega (arith, h.below)
 
-  -- the same by the numbers that the code has: the place before the record, and its words
-  module _ (some_record : lo < at) {q v : ℕ} (eq : q ≡ at - 1) (ev : v ≡ get_or w (q * 4 + 3) 0) where
-    size_is : v ≡ n some_record
-    size_is = ev ∙ ap (λ (j : ℕ). get_or w (j * 4 + 3) 0) eq
+  -- the same by the words that the code has read
+  module _ (some_record : lo < at) {v : ℕ} (ev : v ≡ get_or w ((at - 1) * 4 + 3) 0) where
+    pub drop_at : x.count < 16383 → 4 < v → Extending w p lo b (at - 1) (record { p = at - 1; count = x.count; first = x.first; end = x.end })
+    drop_at f big = extending_drop some_record f (omega (arith, ev))
 
-    pub drop_at : count < 16383 → 4 < v → {q' count' first' end' : ℕ} → q' ≡ q → count' ≡ count → first' ≡ first → end' ≡ end
-        → Extending w p lo b q' count' first' end'
-    drop_at f big eq' ec ef ee = rw (eq', ec, ef, ee, eq) (extending_drop some_record f (omega (arith, size_is)))
+    module _ {u z : ℕ} (eu : u ≡ get_or w ((at - 1) * 4 + 1) 0) (ez : z ≡ x.end - b) (small : v ≤ 4) where
+      pub early_at : u < z → Extends w p lo b x
+      early_at early = extended_early some_record (omega (arith, ev)) (omega (arith, eu, ez))
 
-    module _ {u z : ℕ} (eu : u ≡ get_or w (q * 4 + 1) 0) (ez : z ≡ end - b) (small : v ≤ 4) where
-      start_is : u ≡ s some_record
-      start_is = eu ∙ ap (λ (j : ℕ). get_or w (j * 4 + 1) 0) eq
+      pub hold_at : {t : ℕ} → t ≡ get_or w ((at - 1) * 4 + 2) 0 → x.count < 16383 → z ≤ u
+          → (r : Extent) → r.p ≡ at - 1 → r.count ≡ x.count + 1 → r.first ≡ at - 1 → r.end ≡ cond (eqb x.count 0) t x.end
+          → Extending w p lo b (at - 1) r
+      hold_at et f near r ep ec ef ee =
+          extending_hold some_record r f (omega (arith, ev)) (omega (arith, eu, ez)) ep ec ef (ee ∙ ap (λ (k : ℕ). cond (eqb x.count 0) k x.end) et)
 
-      pub early_at : u < z → Extends w p lo b at count first end
-      early_at early = extended_early some_record (omega (arith, size_is)) (omega (arith, start_is, ez))
-
-      pub hold_at : {t : ℕ} → t ≡ get_or w (q * 4 + 2) 0 → count < 16383 → z ≤ u
-          → {q' count' first' end' : ℕ} → q' ≡ q → count' ≡ count + 1 → first' ≡ q → end' ≡ cond (eqb count 0) t end
-          → Extending w p lo b q' count' first' end'
-      hold_at {t} et f near {q'} {count'} {first'} {end'} eq' ec ef ee =
-          let end_is : t ≡ e some_record = et ∙ ap (λ (j : ℕ). get_or w (j * 4 + 2) 0) eq in
-          rw (eq', ec, ef, eq)
-          (extending_hold some_record end' f (omega (arith, size_is)) (omega (arith, start_is, ez)) (ee ∙ ap (λ (k : ℕ). cond (eqb count 0) k end) end_is))
-
-  pub extended_done : at ≤ lo → Extends w p lo b at count first end
-  extended_done l = record {
-    above = h.above;
-    below = h.below;
-    further = λ k. omega arith;
-    counted = h.counted;
-    ended = h.ended;
-    within = h.within;
-    head = h.head;
-    room = h.room;
-    flat_is = λ own g.
-        let z : at - lo ≡ 0 = omega arith in
-        let none_left : from_back w lo (at - lo) ≡ [] = ap (λ (k : ℕ). from_back w lo k) z ∙ back_none w lo in
-        h.flat_is own g ∙ rw none_left (flat_last b own (held_here at) (stop_here at) g);
-  }
+  pub extended_done : at ≤ lo → Extends w p lo b x
+  extended_done l =
+      let z : at - lo ≡ 0 = omega arith in
+      let none_left : from_back w lo (at - lo) ≡ [] = ap (λ (k : ℕ). from_back w lo k) z ∙ back_none w lo in
+      ended_at (λ k. omega arith) (λ own g. rw none_left (flat_last b own (held_here at) (stop_here at) g))

@@ -2,7 +2,7 @@
 use mathlib.Core.Path.{◌≡◌, refl, sym, ap, ◌∙◌}
 use mathlib.Core.Bool.{Bool, true, false, ◌&&◌, true≢false}
 use mathlib.Core.List.{List, [], ◌∷◌}
-use mathlib.Core.Option.{Option, some}
+use Rattle.std.specs.Prelude.{Option, Some}
 use Prim.Native.Nat.{ℕ, suc, ◌+◌, ◌-◌, ◌*◌, ◌≤◌}
 use native.Mathlib.Omega.{arith}
 use borrow.Author.Tests.{eq-eqb, ne_eqb, ltb-false}
@@ -44,12 +44,12 @@ module _ (i s e n : ℕ) (more : List Record) (count len : ℕ) (x : Bool) (coun
       test ∙ rw (ne_eqb count 1 (λ y. omega arith))
 
 pub part_lone : (i s e n : ℕ) (more : List Record) (count len : ℕ) (x : Bool) → count ≡ suc (length more) → x ≡ (eqb count 1 && ltb 65535 len) → len ≡ held_end e more - s
-    → x ≡ true → (ts : Trees) → flat_part (rec i s e n ∷ more) ts ≡ tree (some i) s len nil ts
+    → x ≡ true → (ts : Trees) → flat_part (rec i s e n ∷ more) ts ≡ tree (Some i) s len nil ts
 unfolding flat_part held_end
 part_lone i s e n [] count len x c t l yes-it ts =
-    ap (λ (y : Bool). elim y as (λ z. Trees) [ true ↦ tree (some i) s (e - s) nil ts | false ↦ part s (e - s) (flat_words s 0 (rec i s e n ∷ [])) ts ])
+    ap (λ (y : Bool). elim y as (λ z. Trees) [ true ↦ tree (Some i) s (e - s) nil ts | false ↦ part s (e - s) (flat_words s 0 (rec i s e n ∷ [])) ts ])
     (lone_test i s e n [] count len x c t l refl ∙ yes-it)
-    ∙ ap (λ (k : ℕ). tree (some i) s k nil ts) (sym l)
+    ∙ ap (λ (k : ℕ). tree (Some i) s k nil ts) (sym l)
 part_lone i s e n (r ∷ rs) count len x c t l yes-it ts =
     absurd (true≢false (sym yes-it ∙ many_test i s e n (r ∷ rs) count len x c t l r rs refl))
 
@@ -57,7 +57,7 @@ pub part_many : (i s e n : ℕ) (more : List Record) (count len : ℕ) (x : Bool
     → x ≡ false → (ts : Trees) → flat_part (rec i s e n ∷ more) ts ≡ part s len (flat_words s 0 (rec i s e n ∷ more)) ts
 unfolding flat_part held_end
 part_many i s e n [] count len x c t l no-it ts =
-    ap (λ (y : Bool). elim y as (λ z. Trees) [ true ↦ tree (some i) s (e - s) nil ts | false ↦ part s (e - s) (flat_words s 0 (rec i s e n ∷ [])) ts ])
+    ap (λ (y : Bool). elim y as (λ z. Trees) [ true ↦ tree (Some i) s (e - s) nil ts | false ↦ part s (e - s) (flat_words s 0 (rec i s e n ∷ [])) ts ])
     (lone_test i s e n [] count len x c t l refl ∙ no-it)
     ∙ ap (λ (k : ℕ). part s k (flat_words s 0 (rec i s e n ∷ [])) ts) (sym l)
 part_many i s e n (r ∷ rs) count len x c t l no-it ts = ap (λ (k : ℕ). part s k (flat_words s 0 (rec i s e n ∷ r ∷ rs)) ts) (sym l)
@@ -84,7 +84,7 @@ unfolding flat_part
 due_held own [] g = let z : due own (gather (flat_part []) g) ≡ due own g = ap (λ (h : Gathered). due own h) (gather_none g) in omega arith
 due_held own (rec i s e n ∷ []) g = go (ltb 65535 (e - s))
   where
-    go : (x : Bool) → due own (gather (λ ts. elim x as (λ z. Trees) [ true ↦ tree (some i) s (e - s) nil ts | false ↦ part s (e - s) (flat_words s 0 (rec i s e n ∷ [])) ts ]) g) ≤ suc (due own g)
-    go true = due_leaf own (some i) s (e - s) g
+    go : (x : Bool) → due own (gather (λ ts. elim x as (λ z. Trees) [ true ↦ tree (Some i) s (e - s) nil ts | false ↦ part s (e - s) (flat_words s 0 (rec i s e n ∷ [])) ts ]) g) ≤ suc (due own g)
+    go true = due_leaf own (Some i) s (e - s) g
     go false = omega (arith, due_part own s (e - s) (flat_words s 0 (rec i s e n ∷ [])) g)
 due_held own (rec i s e n ∷ r ∷ rs) g = omega (arith, due_part own s (held_end e (r ∷ rs) - s) (flat_words s 0 (rec i s e n ∷ r ∷ rs)) g)

@@ -2,7 +2,7 @@
 use mathlib.Core.Path.{◌≡◌, refl, sym, ap, ◌∙◌}
 use mathlib.Core.Bool.{Bool, true, false, ◌&&◌, not}
 use mathlib.Core.List.{List, [], ◌∷◌}
-use mathlib.Core.Option.{Option, none}
+use Rattle.std.specs.Prelude.{Option, None}
 use Prim.Native.Nat.{ℕ, ◌+◌, ◌-◌, ◌*◌, ◌≤◌, ◌<◌}
 use native.Mathlib.Omega.{arith}
 use native.Mathlib.Nat.{le_refl}
@@ -24,13 +24,14 @@ use Rattle.flat.proofs.Back.{back_none, back_step, sorted_held, items_read}
 use Rattle.flat.proofs.Extending.{gather_none, flat_passes, flat_begins}
 use Rattle.flat.proofs.Flats.{due_held}
 use Rattle.tree.specs.Ordered.{Sorted, floor}
+use Rattle.flat.specs.declared.FlatNode.{FlatNode}
 
 flat_end : (b : ℕ) (own : Option ℕ) (g : Gathered) → flat b own [] false [] 0 g ≡ g
 unfolding flat
 flat_end b own g = gather_none g
 
 -- under a tree that is no repeat tree no groups are made
-pub flat_plain : (b : ℕ) (rs : List Record) (inside : Bool) (held : List Record) (stop : ℕ) (g : Gathered) → (flat b none rs inside held stop g).groups ≡ g.groups
+pub flat_plain : (b : ℕ) (rs : List Record) (inside : Bool) (held : List Record) (stop : ℕ) (g : Gathered) → (flat b None rs inside held stop g).groups ≡ g.groups
 unfolding flat gather same
 flat_plain b [] inside held stop g = refl
 flat_plain b (rec i s e n ∷ rs) inside held stop g =
@@ -39,11 +40,11 @@ flat_plain b (rec i s e n ∷ rs) inside held stop g =
     r : Record
     r = rec i s e n
 
-    go : (x : Bool) → (flat b none rs true (hold r held) (limit b r held stop) g).groups ≡ g.groups
-        → (flat b none rs true (hold r []) (limit b r [] 0) (gather (flat_part held) g)).groups ≡ g.groups
+    go : (x : Bool) → (flat b None rs true (hold r held) (limit b r held stop) g).groups ≡ g.groups
+        → (flat b None rs true (hold r []) (limit b r [] 0) (gather (flat_part held) g)).groups ≡ g.groups
         → (elim x as (λ z. Gathered) [
-          | true ↦ flat b none rs true (hold r held) (limit b r held stop) g
-          | false ↦ flat b none rs true (hold r []) (limit b r [] 0) (gather (flat_part held) g)
+          | true ↦ flat b None rs true (hold r held) (limit b r held stop) g
+          | false ↦ flat b None rs true (hold r []) (limit b r [] 0) (gather (flat_part held) g)
         ]).groups ≡ g.groups
     go true a c = a
     go false a c = c
@@ -148,16 +149,14 @@ module _ {w l : List ℕ} {p lo : ℕ} {own : Option ℕ} {b top low groups loos
         used = omega (arith, t.used, v.few, due_pass own b i e t.g, t.under);
       }
 
-      pub pass_at : {j id end : ℕ} → j ≡ at - 1 → id ≡ get_or w (j * 4) 0 → end ≡ get_or w (j * 4 + 2) 0 → {x : Bool} → x ≡ same own id → x ≡ true
+      pub pass_at : {id end : ℕ} → id ≡ i → end ≡ e → same own id ≡ true
           → {l'' : List ℕ} {rtop rgroups rloose redge : ℕ} → PassedOver l' l'' htop id end b hgroups hloose hedge rtop rgroups rloose redge
-          → Taking q l'' j below rtop rgroups rloose redge
-      pass_at {j} {id} {end} ej ei ee ex y {l''} {rtop} {rgroups} {rloose} {redge} v =
-          let fi : id ≡ i = ei ∙ ap (λ (k : ℕ). get_or w (k * 4) 0) ej in
-          let fe : end ≡ e = ee ∙ ap (λ (k : ℕ). get_or w (k * 4 + 2) 0) ej in
-          rw ej (passing (ap (λ (k : ℕ). same own k) (sym fi) ∙ (sym ex ∙ y)) l'' rtop rgroups rloose redge (rw (fi, fe) at v))
+          → Taking q l'' (at - 1) below rtop rgroups rloose redge
+      pass_at ei ee own_is {l''} {rtop} {rgroups} {rloose} {redge} v =
+          passing (ap (λ (k : ℕ). same own k) (sym ei) ∙ own_is) l'' rtop rgroups rloose redge (rw (ei, ee) at v)
 
       -- a flat part
-      pub node_ready : NodeReady w l' at lo b htop below hloose
+      pub node_ready : NodeReady w l' lo b (record { p = at; top = htop; low = below; loose = hloose })
       node_ready = record {
         T = q.T;
         s = q.s;
@@ -173,13 +172,13 @@ module _ {w l : List ℕ} {p lo : ℕ} {own : Option ℕ} {b top low groups loos
         readable = loose_node;
       }
 
-      pub node_at : {j id : ℕ} → j ≡ at - 1 → id ≡ get_or w (j * 4) 0 → {x : Bool} → x ≡ same own id → x ≡ false
-          → {l'' : List ℕ} {to rtop rlow rloose : ℕ} → TookFlat w l' l'' at lo b htop below hloose to rtop rlow rloose
-          → Taking q l'' to rlow rtop hgroups rloose hedge
+      pub node_at : {id : ℕ} → id ≡ i → same own id ≡ false
+          → {l'' : List ℕ} {r : FlatNode} → TookFlat w l' l'' lo b (record { p = at; top = htop; low = below; loose = hloose }) r
+          → Taking q l'' r.p r.low r.top hgroups r.loose hedge
       unfolding gather
-      node_at {j} {id} ej ei ex y {l''} {to} {rtop} {rlow} {rloose} v =
-          let fi : id ≡ i = ei ∙ ap (λ (k : ℕ). get_or w (k * 4) 0) ej in
-          let other : same own i ≡ false = ap (λ (k : ℕ). same own k) (sym fi) ∙ (sym ex ∙ y) in
+      node_at ei other_is {l''} {r} v =
+          let other : same own i ≡ false = ap (λ (k : ℕ). same own k) (sym ei) ∙ other_is in
+          let to = r.p in
           let held : List Record = held_in w to (at - to) in
           let a : at - lo ≡ (at - to) + (to - lo) = omega (arith, v.above, v.further) in
           let so : Sorted q.T q.s t.hi (from_back w lo ((at - to) + (to - lo))) = rw a at t.sorted in
@@ -199,7 +198,7 @@ module _ {w l : List ℕ} {p lo : ℕ} {own : Option ℕ} {b top low groups loos
             sorted = left;
             holds = record {
               groups_at =
-                  frame false l' l'' q.base htop below rtop rlow v.grown v.lower
+                  frame false l' l'' q.base htop below r.top r.low v.grown v.lower
                   (same_less l' l'' 0 htop below q.base htop below (omega arith) (le_refl htop) (le_refl below) v.kept) hgroups t.g.groups t.holds.groups_at;
               loose_at = v.holds q.base t.g.loose q.live (omega (arith, q.above, t.grown)) t.holds.loose_at;
               edge_is = t.holds.edge_is;

@@ -87,17 +87,17 @@ module _ (w : List ℕ) (to at : ℕ) (some_record : to < at) where
       let none_more : length (hold (record_at w (at - 1)) []) ≡ 0 = ap (λ (rs : List Record). length rs) (hold_none i s e n [] h) in
       omega (arith, split_last, none_more)
 
-module _ {w l : List ℕ} {p to q count low : ℕ} (ready : StageReady w l p to q count low) where
-  -- the held ones from `at` on are staged, and `left` words are still to come
-  pub record Staging (at left below : ℕ) (l' : List ℕ) : Type 0 where
-    pub above : to ≤ at
-    pub under : at ≤ p
-    pub left_is : left ≡ 4 * length (held_in w to (at - to))
-    pub address : below + 4 * length (held_in w at (p - at)) ≡ low
-    pub kept : Same l l' 0 below low
-    pub staged : Staged l' below below (flat_words q left (held_in w at (p - at)))
+-- the held ones from `at` on are staged, and `left` words are still to come
+pub record Staging (w l : List ℕ) (p to q low at left below : ℕ) (l' : List ℕ) : Type 0 where
+  pub above : to ≤ at
+  pub under : at ≤ p
+  pub left_is : left ≡ 4 * length (held_in w to (at - to))
+  pub address : below + 4 * length (held_in w at (p - at)) ≡ low
+  pub kept : Same l l' 0 below low
+  pub staged : Staged l' below below (flat_words q left (held_in w at (p - at)))
 
-  pub staging_start : Staging p (count * 4) low l
+module _ {w l : List ℕ} {p to q count low : ℕ} (ready : StageReady w l p to q count low) where
+  pub staging_start : Staging w l p to q low p (count * 4) low l
   staging_start =
       let z : p - p ≡ 0 = omega arith in
       let none_yet : held_in w p (p - p) ≡ [] = ap (λ (k : ℕ). held_in w p k) z ∙ held_none w p in
@@ -115,7 +115,7 @@ module _ {w l : List ℕ} {p to q count low : ℕ} (ready : StageReady w l p to 
         });
       }
 
-  module _ {at left below : ℕ} {l' : List ℕ} (h : Staging at left below l') where
+  module _ {at left below : ℕ} {l' : List ℕ} (h : Staging w l p to q low at left below l') where
     pub staging_place : to < at → (at - 1) * 4 + 4 ≤ length w
     staging_place t = omega (arith, h.under, ready.within)
 
@@ -123,7 +123,7 @@ module _ {w l : List ℕ} {p to q count low : ℕ} (ready : StageReady w l p to 
       step : held_in w (at - 1) (p - (at - 1)) ≡ hold (record_at w (at - 1)) (held_in w at (p - at))
       step = held_step w p at (omega arith) h.under
 
-      pub staging_drop : 4 < n w to at some_record → Staging (at - 1) left below l'
+      pub staging_drop : 4 < n w to at some_record → Staging w l p to q low (at - 1) left below l'
       staging_drop big =
           let same : held_in w (at - 1) (p - (at - 1)) ≡ held_in w at (p - at) = step ∙ hold_none _ _ _ _ (held_in w at (p - at)) big in
           record {
@@ -173,7 +173,7 @@ module _ {w l : List ℕ} {p to q count low : ℕ} (ready : StageReady w l p to 
               last = t.last;
             }
 
-        pub staging_hold : (l'' : List ℕ) (r : ℕ) → StagedRecord w l' l'' (at - 1) q left below r → Staging (at - 1) (left - 4) r l''
+        pub staging_hold : (l'' : List ℕ) (r : ℕ) → StagedRecord w l' l'' (at - 1) q left below r → Staging w l p to q low (at - 1) (left - 4) r l''
         staging_hold l'' r st = record {
           above = omega arith;
           under = omega (arith, h.under);
@@ -185,26 +185,20 @@ module _ {w l : List ℕ} {p to q count low : ℕ} (ready : StageReady w l p to 
               (st.holds (flat_words q left (held_in w at (p - at))) h.staged);
         }
 
-    -- the same by the numbers that the code has
-    module _ (some_record : to < at) {j v : ℕ} (ej : j ≡ at - 1) (ev : v ≡ get_or w (j * 4 + 3) 0) where
-      size_is : v ≡ n w to at some_record
-      size_is = ev ∙ ap (λ (k : ℕ). get_or w (k * 4 + 3) 0) ej
-
-      pub drop_at : 4 < v → Staging j left below l'
-      drop_at big = rw ej (staging_drop some_record (omega (arith, size_is)))
+    -- the same by the size that the code has read
+    module _ (some_record : to < at) {v : ℕ} (ev : v ≡ n w to at some_record) where
+      pub drop_at : 4 < v → Staging w l p to q low (at - 1) left below l'
+      drop_at big = staging_drop some_record (omega arith)
 
       module _ (small : v ≤ 4) where
-        small_at : n w to at some_record ≤ 4
-        small_at = omega (arith, size_is)
-
         pub four_at : 4 ≤ left
-        four_at = staging_four some_record small_at
+        four_at = staging_four some_record (omega arith)
 
-        pub ready_at : RecordReady w l' j q left below
-        ready_at = rw ej (record_ready some_record small_at)
+        pub ready_at : RecordReady w l' (at - 1) q left below
+        ready_at = record_ready some_record (omega arith)
 
-        pub hold_at : {l'' : List ℕ} {r : ℕ} → StagedRecord w l' l'' j q left below r → Staging j (left - 4) r l''
-        hold_at {l''} {r} st = rw ej (staging_hold some_record small_at l'' r (rw ej at st))
+        pub hold_at : {l'' : List ℕ} {r : ℕ} → StagedRecord w l' l'' (at - 1) q left below r → Staging w l p to q low (at - 1) (left - 4) r l''
+        hold_at {l''} {r} st = staging_hold some_record (omega arith) l'' r st
 
     pub staging_end : at ≤ to → StagedFlat w l l' p to q low below
     staging_end d =

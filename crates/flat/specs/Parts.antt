@@ -1,12 +1,12 @@
 -- What staging a flat part asks of the work slice and leaves in it. Nothing here is needed to read what a call promises.
-use Rattle.std.specs.Prelude.{◌≡◌, List, [], ◌∷◌, true, false, ℕ, ◌+◌, ◌-◌, ◌*◌, ◌≤◌, ◌<◌, length}
-use Rattle.std.proofs.Math.Option.{Option}
+use Rattle.std.specs.Prelude.{◌≡◌, List, [], ◌∷◌, true, false, ℕ, ◌+◌, ◌-◌, ◌*◌, ◌≤◌, ◌<◌, length, Option}
 use Rattle.words.specs.Words.{record_width, id_of, start_of, end_of}
 use Rattle.tree.specs.Trees.{Trees}
 use Rattle.tree.specs.Groups.{Gathered, gather}
 use Rattle.tree.specs.Flat.{flat_words, flat_part, flat}
 use Rattle.store.specs.Store.{Staged, Same, Holds, Readable}
 use Rattle.flat.specs.Back.{from_back, held_in}
+use Rattle.flat.specs.declared.FlatNode.{FlatNode}
 use Rattle.tree.specs.Well.{Short}
 use Rattle.tree.specs.Ordered.{Sorted}
 
@@ -43,30 +43,30 @@ pub record StagedFlat (w l l' : List ℕ) (p to q low r : ℕ) : Type 0 where
   pub kept : Same l l' 0 r low
   pub staged : Staged l' r r (flat_words q 0 (held_in w to (p - to)))
 
--- records from lo up to p, at least one, for a flat part before the list `loose`: 14 words for each are free
-pub record NodeReady (w l : List ℕ) (p lo b top low loose : ℕ) : Type 0 where
+-- the records from lo up to `at.p`, at least one, for a flat part before the list `at.loose`: 14 words for each are free
+pub record NodeReady (w l : List ℕ) (lo b : ℕ) (at : FlatNode) : Type 0 where
   pub T : ℕ
   pub s : ℕ
   pub e : ℕ
   pub types : T ≤ 65536
   pub bound : b ≤ 65535
-  pub sorted : Sorted T s e (from_back w lo (p - lo))
-  pub within : p * record_width ≤ length w
-  pub some_record : lo < p
-  pub room : top + 14 * (p - lo) ≤ low
-  pub inside : low ≤ length l
-  pub fits : low ≤ 4294967295
-  pub readable : Readable l loose
+  pub sorted : Sorted T s e (from_back w lo (at.p - lo))
+  pub within : at.p * record_width ≤ length w
+  pub some_record : lo < at.p
+  pub room : at.top + 14 * (at.p - lo) ≤ at.low
+  pub inside : at.low ≤ length l
+  pub fits : at.low ≤ 4294967295
+  pub readable : Readable l at.loose
 
--- a flat part of the records from `to` up to p stands before that list, or a leaf, or nothing where none is held
-pub record TookFlat (w l l' : List ℕ) (p lo b top low loose to rtop rlow rloose : ℕ) : Type 0 where
-  pub above : lo ≤ to
-  pub further : to < p
-  pub grown : top ≤ rtop
-  pub lower : rlow ≤ low
-  pub used : rtop + low ≤ rlow + top + 14 * (p - to)
-  pub kept : Same l l' 0 top low
-  pub holds : (base : ℕ) (ts : Trees) → 0 < base → base ≤ top → Holds false l base top low loose ts
-      → Holds false l' base rtop rlow rloose (flat_part (held_in w to (p - to)) ts)
-  pub flat_is : (own : Option ℕ) (g : Gathered) → flat b own (from_back w lo (p - lo)) true [] 0 g
-      ≡ flat b own (from_back w lo (to - lo)) false [] 0 (gather (flat_part (held_in w to (p - to))) g)
+-- a flat part of the records from `r.p` up to `at.p` stands before that list, or a leaf, or nothing where none is held
+pub record TookFlat (w l l' : List ℕ) (lo b : ℕ) (at r : FlatNode) : Type 0 where
+  pub above : lo ≤ r.p
+  pub further : r.p < at.p
+  pub grown : at.top ≤ r.top
+  pub lower : r.low ≤ at.low
+  pub used : r.top + at.low ≤ r.low + at.top + 14 * (at.p - r.p)
+  pub kept : Same l l' 0 at.top at.low
+  pub holds : (base : ℕ) (ts : Trees) → 0 < base → base ≤ at.top → Holds false l base at.top at.low at.loose ts
+      → Holds false l' base r.top r.low r.loose (flat_part (held_in w r.p (at.p - r.p)) ts)
+  pub flat_is : (own : Option ℕ) (g : Gathered) → flat b own (from_back w lo (at.p - lo)) true [] 0 g
+      ≡ flat b own (from_back w lo (r.p - lo)) false [] 0 (gather (flat_part (held_in w r.p (at.p - r.p))) g)

@@ -1,6 +1,5 @@
 -- What the loop over a tree deeper than 2,500 asks and leaves. Nothing here is needed to read what a call promises.
-use Rattle.std.specs.Prelude.{List, [], false, ℕ, ◌+◌, ◌-◌, ◌*◌, ◌≤◌, ◌<◌, length}
-use Rattle.std.proofs.Math.Option.{Option}
+use Rattle.std.specs.Prelude.{List, [], false, ℕ, ◌+◌, ◌-◌, ◌*◌, ◌≤◌, ◌<◌, length, Option}
 use Rattle.tree.specs.Items.{Items}
 use Rattle.tree.specs.Groups.{Gathered}
 use Rattle.tree.specs.Flat.{flattened, flat}

@@ -4,12 +4,11 @@
 
 ghost use Rattle.std.specs.Prelude.{◌≡◌, cond, ◌&&◌, ◌+◌, ◌*◌, ◌≤◌, ◌<◌, length, eqb, ltb};
 ghost use Rattle.words.specs.Words.{record_width};
-ghost use Rattle.cursor.specs.Own.{own_of};
 ghost use Rattle.flat.specs.Back.{Extends};
 ghost use Rattle.flat.specs.Parts.{RecordReady, StagedRecord, StageReady, StagedFlat, NodeReady, TookFlat};
 ghost use Rattle.flat.specs.Taking.{FlatReady, TakenFlat};
 
-use store::NODE_WIDTH;
+use store::{NODE_WIDTH, NodeType};
 use words::RECORD_SIZE;
 
 // How far a flat part reaches: the place before it, how many records it holds, the number of the leftmost one, and where the
@@ -22,42 +21,21 @@ pub struct Extent {
     pub end: u32,
 }
 
-// One record more, above 4 words: it is dropped.
-fn dropped(x: Extent, q: usize) -> Extent
-    ensures p_value { result.p ≡ q }
-    ensures count_value { result.count ≡ x.count }
-    ensures first_value { result.first ≡ x.first }
-    ensures end_value { result.end ≡ x.end }
-{
-    Extent {
-        p: q,
-        count: x.count,
-        first: x.first,
-        end: x.end,
-    }
-}
-
-// One record more, of 4 words, that ends at `end`: it is held.
-fn held(x: Extent, q: usize, end: u32) -> Extent
-    requires { x.count < 16383 }
-    ensures p_value { result.p ≡ q }
-    ensures count_value { result.count ≡ x.count + 1 }
-    ensures first_value { result.first ≡ q }
-    ensures end_value { result.end ≡ cond (eqb x.count 0) end x.end }
-{
-    if x.count == 0 {
-        return Extent {
+impl Extent {
+    // One record more, of 4 words, that ends at `end`: it is held.
+    fn held(self, q: usize, end: u32) -> Extent
+        requires { self.count < 16383 }
+        ensures p_value { result.p ≡ q }
+        ensures count_value { result.count ≡ self.count + 1 }
+        ensures first_value { result.first ≡ q }
+        ensures end_value { result.end ≡ cond (eqb self.count 0) end self.end }
+    {
+        Extent {
             p: q,
-            count: 1,
+            count: self.count + 1,
             first: q,
-            end: end,
-        };
-    }
-    Extent {
-        p: q,
-        count: x.count + 1,
-        first: q,
-        end: x.end,
+            end: if self.count == 0 { end } else { self.end },
+        }
     }
 }
 
@@ -67,27 +45,26 @@ fn held(x: Extent, q: usize, end: u32) -> Extent
 fn flat_extent(records: &[u32], p: usize, lo: usize, bound: u32) -> Extent
     requires record_width_in_bounds { p * record_width ≤ length records.now }
     requires lo_le_p { lo ≤ p }
-    ensures { Extends records.now p lo bound result.p result.count result.first result.end }
+    ensures { Extends records.now p lo bound result }
 {
     let mut x = Extent {
-        p: p,
+        p,
         count: 0,
         first: lo,
         end: 0,
     };
-    while lo < x.p {
+    for q in (lo..p).rev() {
         if 16383 <= x.count {
             return x;
         }
-        let q = records::back(x.p);
         if RECORD_SIZE < records::size_at(records, q) {
-            x = dropped(x, q);
+            x = Extent { p: q, ..x };
             continue;
         }
-        if records::start_at(records, q) < words::less(x.end, bound) {
+        if records::start_at(records, q) < x.end.saturating_sub(bound) {
             return x;
         }
-        x = held(x, q, records::end_at(records, q));
+        x = x.held(q, records::end_at(records, q));
     }
     x
 }
@@ -104,8 +81,8 @@ fn stage_record(
     requires { RecordReady records.now work.old i start index low }
     ensures { StagedRecord records.now work.old work.new i start index low result }
 {
-    let from = words::less(records::start_at(records, i), start);
-    let to = words::less(records::end_at(records, i), start);
+    let from = records::start_at(records, i).saturating_sub(start);
+    let to = records::end_at(records, i).saturating_sub(start);
     let id = records::id_at(records, i);
     let third = store::stage(work, low, index as u16);
     let second = store::stage(work, third, to as u16);
@@ -127,18 +104,14 @@ fn stage_flat(
     requires { StageReady records.now work.old p to start count low }
     ensures { StagedFlat records.now work.old work.new p to start low result }
 {
-    let mut at = p;
     let mut left = count * RECORD_SIZE;
     let mut below = low;
-    while to < at {
-        let q = records::back(at);
+    for q in (to..p).rev() {
         if RECORD_SIZE < records::size_at(records, q) {
-            at = q;
             continue;
         }
         below = stage_record(records, q, start, left, work, below);
         left -= RECORD_SIZE;
-        at = q;
     }
     below
 }
@@ -147,13 +120,10 @@ fn stage_flat(
 fn is_lone_long(count: u32, length: u32) -> bool
     ensures { result ≡ (eqb count 1 && ltb 65535 length) }
 {
-    if count == 1 {
-        return 65535 < length;
-    }
-    false
+    count == 1 && 65535 < length
 }
 
-// A flat part put before a list: the place before its records, the store's new bounds and the list.
+// Where flat parts are put: the place up to which records are left, the bounds of the store, and the list that they stand before.
 #[derive(Clone, Copy)]
 pub struct FlatNode {
     pub p: usize,
@@ -162,70 +132,61 @@ pub struct FlatNode {
     pub loose: u32,
 }
 
-// The records that a flat part holds, at least one, as a part before the list `loose`, or as a leaf.
+// The records that a flat part holds, at least one, as a part before the list, or as a leaf.
 fn push_flat(
     records: &[u32],
-    p: usize,
     lo: usize,
     bound: u32,
     x: Extent,
     work: &mut [u32],
-    top: u32,
-    low: u32,
-    loose: u32,
+    at: FlatNode,
 ) -> FlatNode
-    requires node_ready { NodeReady records.now work.old p lo bound top low loose }
-    requires extends { Extends records.now p lo bound x.p x.count x.first x.end }
+    requires node_ready { NodeReady records.now work.old lo bound at }
+    requires extends { Extends records.now at.p lo bound x }
     requires le_count { 1 ≤ x.count }
-    ensures { TookFlat records.now work.old work.new p lo bound top low loose result.p result.top result.low result.loose }
+    ensures { TookFlat records.now work.old work.new lo bound at result }
 {
-    let count = x.count;
     let start = records::start_at(records, x.first);
-    let length = words::less(x.end, start);
-    if is_lone_long(count, length) {
+    let length = x.end.saturating_sub(start);
+    let top = at.top + NODE_WIDTH;
+    if is_lone_long(x.count, length) {
         let id = records::id_at(records, x.first);
-        let made = store::push_tree(work, top, 1, id, start, length, 0, loose);
+        let own = NodeType { kind: 1, id };
+        let loose = store::push_tree(work, at.top, own, start, length, 0, at.loose);
         return FlatNode {
             p: x.p,
-            top: top + NODE_WIDTH,
-            low: low,
-            loose: made,
+            top,
+            loose,
+            ..at
         };
     }
-    let from = stage_flat(records, p, x.p, start, count, work, low);
-    let made = store::push_part(work, top, start, length, from, count * 4, loose);
+    let low = stage_flat(records, at.p, x.p, start, x.count, work, at.low);
+    let size = x.count * RECORD_SIZE;
+    let loose = store::push_part(work, at.top, start, length, low, size, at.loose);
     FlatNode {
         p: x.p,
-        top: top + NODE_WIDTH,
-        low: from,
-        loose: made,
+        top,
+        low,
+        loose,
     }
 }
 
-// One flat part before the list `loose`; nothing where all its records are dropped.
+// One flat part before the list; nothing where all its records are dropped.
 fn take_flat_node(
     records: &[u32],
-    p: usize,
     lo: usize,
     bound: u32,
     work: &mut [u32],
-    top: u32,
-    low: u32,
-    loose: u32,
+    at: FlatNode,
 ) -> FlatNode
-    requires { NodeReady records.now work.old p lo bound top low loose }
-    ensures { TookFlat records.now work.old work.new p lo bound top low loose result.p result.top result.low result.loose }
+    requires { NodeReady records.now work.old lo bound at }
+    ensures { TookFlat records.now work.old work.new lo bound at result }
 {
-    let x = flat_extent(records, p, lo, bound);
+    let x = flat_extent(records, at.p, lo, bound);
     if x.count == 0 {
-        return FlatNode {
-            p: x.p,
-            top: top,
-            low: low,
-            loose: loose,
-        };
+        return FlatNode { p: x.p, ..at };
     }
-    push_flat(records, p, lo, bound, x, work, top, low, loose)
+    push_flat(records, lo, bound, x, work, at)
 }
 
 // What a tree has gathered, and where the staged words begin.
@@ -240,37 +201,39 @@ pub fn take_flat(
     records: &[u32],
     p: usize,
     lo: usize,
-    own: cursor::InRepeat,
+    own: Option<u32>,
     bound: u32,
     work: &mut [u32],
     low: u32,
     g: gathering::Gathering,
 ) -> Flattened
-    requires { FlatReady records.now work.old p lo (own_of own) bound g.top low g.groups g.loose g.edge }
-    ensures { TakenFlat records.now work.old work.new p lo (own_of own) bound g.top low g.groups g.loose g.edge result.g.top result.low result.g.groups result.g.loose result.g.edge }
+    requires { FlatReady records.now work.old p lo own bound g.top low g.groups g.loose g.edge }
+    ensures { TakenFlat records.now work.old work.new p lo own bound g.top low g.groups g.loose g.edge result.g.top result.low result.g.groups result.g.loose result.g.edge }
 {
     let mut at = p;
     let mut below = low;
     let mut h = g;
     while lo < at {
-        let q = records::back(at);
+        let q = at - 1;
         let id = records::id_at(records, q);
         if cursor::is_own(own, id) {
-            let end = records::end_at(records, q);
-            h = gathering::pass_over(work, id, end, bound, h);
+            h = gathering::pass_over(work, id, records::end_at(records, q), bound, h);
             at = q;
             continue;
         }
-        let node = take_flat_node(records, at, lo, bound, work, h.top, below, h.loose);
+        let from = FlatNode {
+            p: at,
+            top: h.top,
+            low: below,
+            loose: h.loose,
+        };
+        let node = take_flat_node(records, lo, bound, work, from);
         at = node.p;
         below = node.low;
-        let groups = h.groups;
-        let edge = h.edge;
         h = gathering::Gathering {
             top: node.top,
-            groups: groups,
             loose: node.loose,
-            edge: edge,
+            ..h
         };
     }
     Flattened { low: below, g: h }

@@ -6,6 +6,9 @@ use native.Mathlib.Numerals.{add-one}
 use native.Mathlib.Omega.{arith}
 use lib.ListN.{length, get_or, drop, set, length-set}
 use Rattle.words.specs.Outcome.{Outcome, number_of, place_of, counts_of, Result}
+use Rattle.words.specs.Refusal.{refused_by}
+use Rattle.words.specs.declared.refusal.Refusal.{Refusal}
+use Rattle.words.proofs.Refusals.{told as by_number}
 use Rattle.gateway.specs.Told.{as_word, padded, laid, told, told_result}
 
 -- words stored one by one from an index on; a store past the end changes nothing
@@ -58,3 +61,15 @@ told_as n o x l l₁ e h = rw (← e, h)
 -- the result r was found to be an outcome with these outputs
 pub told_result_as : (n : ℕ) (r : Result) (x : Outcome) (outs : List (List ℕ)) (l l₁ : List ℕ) → record { outcome = x; outputs = outs } ≡ r → l₁ ≡ laid (map as_word (place_of x ∷ padded n (counts_of x))) l → record { number = number_of x; info = l₁; outputs = outs } ≡ told_result n r l
 told_result_as n r x outs l l₁ e h = rw (← e, h)
+
+-- a refusal has no counts
+no_counts : (r : Refusal) → counts_of (refused_by r) ≡ []
+no_counts r = ap counts_of (by_number r)
+
+-- the outcome o was found to be a refusal
+pub told_refused : (o : Outcome) (r : Refusal) (l l₁ : List ℕ) → refused_by r ≡ o → l₁ ≡ laid (map as_word (place_of (refused_by r) ∷ 0 ∷ 0 ∷ [])) l → record { number = number_of (refused_by r); info = l₁; outputs = [] } ≡ told 2 o l
+told_refused o r l l₁ e h = told_as 2 o (refused_by r) l l₁ e (h ∙ ap (λ (counts : List ℕ). laid (map as_word (place_of (refused_by r) ∷ padded 2 counts)) l) (sym (no_counts r)))
+
+-- the result was found to be a refusal with these outputs
+pub told_result_refused : (s : Result) (r : Refusal) (outs : List (List ℕ)) (l l₁ : List ℕ) → record { outcome = refused_by r; outputs = outs } ≡ s → l₁ ≡ laid (map as_word (place_of (refused_by r) ∷ 0 ∷ 0 ∷ [])) l → record { number = number_of (refused_by r); info = l₁; outputs = outs } ≡ told_result 2 s l
+told_result_refused s r outs l l₁ e h = told_result_as 2 s (refused_by r) outs l l₁ e (h ∙ ap (λ (counts : List ℕ). laid (map as_word (place_of (refused_by r) ∷ padded 2 counts)) l) (sym (no_counts r)))

@@ -5,9 +5,10 @@
 ghost use Rattle.std.specs.Prelude.{◌≡◌, [], ◌∷◌, map};
 ghost use lib.ListN;
 ghost use lib.ListN.{length, set};
+ghost use Rattle.words.specs.Outcome.{number_of, place_of};
+ghost use Rattle.words.specs.Refusal.{refused_by};
 ghost use Rattle.records.specs.Check.{check};
 ghost use Rattle.tree.specs.Calls.{build_call};
-ghost use Rattle.build.specs.Answer.{given_length};
 ghost use Rattle.rules.specs.Calls.{materialise_call, balance_call, list_call};
 ghost use Rattle.part.specs.Part.{part_check};
 ghost use Rattle.slicing.specs.Slice.{slice_part};
@@ -15,14 +16,13 @@ ghost use Rattle.search.specs.Search.{search_part};
 ghost use Rattle.gateway.specs.Told.{as_word, laid, told, told_result};
 ghost use Rattle.gateway.specs.Given.{given_as, flag_as};
 
+use words::Refusal;
+
 // A number as a word of `info`.
 fn word(n: usize) -> u32
     ensures { result ≡ as_word n }
 {
-    if 4294967295 < n {
-        return 4294967295;
-    }
-    n as u32
+    u32::try_from(n).unwrap_or(u32::MAX)
 }
 
 // One word, if the slice reaches so far.
@@ -38,11 +38,18 @@ fn put(info: &mut [u32], at: usize, n: usize)
 fn tell(info: &mut [u32], numbers: &[usize])
     ensures { info.new ≡ laid (map as_word numbers.now) info.old }
 {
-    let mut i: usize = 0;
-    while i < numbers.len() {
+    for i in 0..numbers.len() {
         put(info, i, numbers[i]);
-        i += 1;
     }
+}
+
+// Tells the place of a refusal, without counts, and answers its number.
+fn refuse(info: &mut [u32], refusal: Refusal) -> u32
+    ensures number { result ≡ number_of (refused_by refusal) }
+    ensures place { info.new ≡ laid (map as_word (place_of (refused_by refusal) ∷ 0 ∷ 0 ∷ [])) info.old }
+{
+    tell(info, &[refusal.place(), 0, 0]);
+    refusal.number()
 }
 
 // The call check of document 01; the count is that of the records.
@@ -58,27 +65,20 @@ pub fn hulwyth_check(
 ) -> u32
     ensures { record { number = result; info = info.new; outputs = [] } ≡ told 2 (check types bound top start (length work.old) records.now) info.old }
 {
-    let answer = records::check(types, first_repeat, bound, start, top, records, work);
-    match answer {
-        records::Checked::Records(count) => {
-            tell(info, &[0, count as usize, 0]);
-            return 0;
+    match records::check(types, first_repeat, bound, start, top, records, work) {
+        Ok(count) => {
+            tell(info, &[0, count, 0]);
+            0
         }
-        records::Checked::Refused(number, place) => {
-            tell(info, &[place as usize, 0, 0]);
-            return number;
-        }
+        Err(refusal) => refuse(info, refusal),
     }
 }
 
 // A length that is given, or none: `given` 0 says that there is none.
-fn given_length(given: u32, length: u32) -> build::Given
-    ensures { given_length result ≡ given_as given length }
+fn given_length(given: u32, length: u32) -> Option<u32>
+    ensures { result ≡ given_as given length }
 {
-    if given == 0 {
-        return build::Given::Last;
-    }
-    build::Given::Length(length)
+    if given == 0 { None } else { Some(length) }
 }
 
 // The call build of document 01; the counts are cells and words.
@@ -99,7 +99,7 @@ pub fn hulwyth_build(
     ensures { record { number = result; info = info.new; outputs = cells.new ∷ words.new ∷ [] } ≡ told_result 2 (build_call types first_repeat bound start top (given_as given length) (lib.ListN.length work.old) records.now cells.old words.old) info.old }
 {
     let last = given_length(given, length);
-    let answer = build::build(
+    match build::build(
         types,
         first_repeat,
         bound,
@@ -110,16 +110,12 @@ pub fn hulwyth_build(
         work,
         cells,
         words,
-    );
-    match answer {
-        build::Built::Cells(count, packed) => {
-            tell(info, &[0, count, packed]);
-            return 0;
+    ) {
+        Ok(built) => {
+            tell(info, &[0, built.cells, built.words]);
+            0
         }
-        build::Built::Refused(number, place) => {
-            tell(info, &[place, 0, 0]);
-            return number;
-        }
+        Err(refusal) => refuse(info, refusal),
     }
 }
 
@@ -134,24 +130,13 @@ pub fn hulwyth_materialise(
 ) -> u32
     ensures { record { number = result; info = info.new; outputs = out.new ∷ [] } ≡ told_result 2 (materialise_call types cells.now words.now (length work.old) out.old) info.old }
 {
-    let answer = materialize::materialize(types, cells, words, work, out);
-    match answer {
-        materialize::Materialized::Cells(count) => {
+    match materialize::materialize(types, cells, words, work, out) {
+        Ok(count) => {
             tell(info, &[0, count, 0]);
-            return 0;
+            0
         }
-        materialize::Materialized::Refused(number, place) => {
-            tell(info, &[place, 0, 0]);
-            return number;
-        }
+        Err(refusal) => refuse(info, refusal),
     }
-}
-
-// 0 says no, any other number yes.
-fn flag(number: u32) -> bool
-    ensures { result ≡ flag_as number }
-{
-    number != 0
 }
 
 // The call balance of document 01, with whether place 0 of the set is none; the counts are cells and words.
@@ -167,16 +152,12 @@ pub fn hulwyth_balance(
 ) -> u32
     ensures { record { number = result; info = info.new; outputs = out.new ∷ packed.new ∷ [] } ≡ told_result 2 (balance_call types (flag_as none_first) cells.now words.now (length work.old) out.old packed.old) info.old }
 {
-    let answer = balance::balance(types, flag(none_first), cells, words, work, out, packed);
-    match answer {
-        balance::Balanced::Cells(count, second) => {
-            tell(info, &[0, count, second]);
-            return 0;
+    match balance::balance(types, none_first != 0, cells, words, work, out, packed) {
+        Ok(written) => {
+            tell(info, &[0, written.cells, written.words]);
+            0
         }
-        balance::Balanced::Refused(number, place) => {
-            tell(info, &[place, 0, 0]);
-            return number;
-        }
+        Err(refusal) => refuse(info, refusal),
     }
 }
 
@@ -193,16 +174,12 @@ pub fn hulwyth_list(
 ) -> u32
     ensures { record { number = result; info = info.new; outputs = lines.new ∷ [] } ≡ told_result 2 (list_call types first_repeat start cells.now words.now (length work.old) lines.old) info.old }
 {
-    let answer = listing::list(types, first_repeat, start, cells, words, work, lines);
-    match answer {
-        listing::Listed::Lines(count) => {
+    match listing::list(types, first_repeat, start, cells, words, work, lines) {
+        Ok(count) => {
             tell(info, &[0, count, 0]);
-            return 0;
+            0
         }
-        listing::Listed::Refused(number, place) => {
-            tell(info, &[place, 0, 0]);
-            return number;
-        }
+        Err(refusal) => refuse(info, refusal),
     }
 }
 
@@ -210,15 +187,22 @@ pub fn hulwyth_list(
 pub fn hulwyth_part_check(types: u32, words: &[u16], info: &mut [u32]) -> u32
     ensures { record { number = result; info = info.new; outputs = [] } ≡ told 3 (part_check words.now types) info.old }
 {
-    let answer = part::part_check(words, types);
-    match answer {
-        part::Checked::Records(count, greatest, deepest) => {
-            tell(info, &[0, count, greatest as usize, deepest]);
-            return 0;
+    match part::part_check(words, types) {
+        Ok(figures) => {
+            tell(
+                info,
+                &[
+                    0,
+                    figures.records,
+                    usize::from(figures.greatest),
+                    figures.deepest,
+                ],
+            );
+            0
         }
-        part::Checked::Refused(number, place) => {
-            tell(info, &[place, 0, 0, 0]);
-            return number;
+        Err(refusal) => {
+            tell(info, &[refusal.place(), 0, 0, 0]);
+            refusal.number()
         }
     }
 }
@@ -235,16 +219,12 @@ pub fn hulwyth_part_slice(
 ) -> u32
     ensures { record { number = result; info = info.new; outputs = out.new ∷ [] } ≡ told_result 2 (slice_part words.now types from to base out.old) info.old }
 {
-    let answer = slicing::slice(words, types, from, to, base, out);
-    match answer {
-        slicing::Sliced::Words(count, length) => {
-            tell(info, &[0, count, length as usize]);
-            return 0;
+    match slicing::slice(words, types, from, to, base, out) {
+        Ok(slice) => {
+            tell(info, &[0, slice.words, usize::from(slice.length)]);
+            0
         }
-        slicing::Sliced::Refused(number, place) => {
-            tell(info, &[place, 0, 0]);
-            return number;
-        }
+        Err(refusal) => refuse(info, refusal),
     }
 }
 
@@ -262,19 +242,15 @@ pub fn hulwyth_part_search(
 ) -> u32
     ensures { record { number = result; info = info.new; outputs = [] } ≡ told 2 (search_part words.now types from to direction position base side) info.old }
 {
-    let answer = search::search(words, types, from, to, direction, position, base, side);
-    match answer {
-        search::Searched::Match(at) => {
+    match search::search(words, types, from, to, direction, position, base, side) {
+        Ok(Some(at)) => {
             tell(info, &[0, 1, at]);
-            return 0;
+            0
         }
-        search::Searched::NoMatch => {
+        Ok(None) => {
             tell(info, &[0, 0, 0]);
-            return 0;
+            0
         }
-        search::Searched::Refused(number, place) => {
-            tell(info, &[place, 0, 0]);
-            return number;
-        }
+        Err(refusal) => refuse(info, refusal),
     }
 }

@@ -2,7 +2,7 @@
 use mathlib.Core.Path.{◌≡◌, refl}
 use mathlib.Core.Bool.{false}
 use mathlib.Core.List.{List}
-use mathlib.Core.Option.{some}
+use Rattle.std.specs.Prelude.{Some}
 use Prim.Native.Nat.{ℕ, ◌+◌, ◌-◌}
 use Rattle.tree.specs.Groups.{close}
 use Rattle.tree.specs.Cells.{kind, id_word}
@@ -16,7 +16,7 @@ closed {i = i} el q = record {
   top_is = refl;
   kept = q.kept;
   holds = λ base low g live above free h. record {
-    groups_at = rw (h.edge_is, ← el) (q.holds false base low (some i) g.loose g.groups live above free refl refl h.loose_at h.groups_at);
+    groups_at = rw (h.edge_is, ← el) (q.holds false base low (Some i) g.loose g.groups live above free refl refl h.loose_at h.groups_at);
     loose_at = refl;
     edge_is = refl;
   };

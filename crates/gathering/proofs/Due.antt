@@ -2,7 +2,7 @@
 use mathlib.Core.Path.{◌≡◌, refl}
 use mathlib.Core.Bool.{Bool, true, false}
 use mathlib.Core.List.{List}
-use mathlib.Core.Option.{Option, some}
+use Rattle.std.specs.Prelude.{Option, Some}
 use Prim.Native.Nat.{ℕ, suc, ◌+◌, ◌-◌, ◌≤◌}
 use native.Mathlib.Omega.{arith}
 use lib.Dec.{leb}
@@ -23,7 +23,7 @@ module _ (own : Option ℕ) where
   -- a group is one unit over the children that it takes
   pub due_close : (i s : ℕ) (g : Gathered) → due own (close i s g) ≤ suc (due own g)
   unfolding due close own_total
-  due_close i s g = omega (arith, total_group (in_set false own) (some i) s (g.edge - s) g.loose g.groups)
+  due_close i s g = omega (arith, total_group (in_set false own) (Some i) s (g.edge - s) g.loose g.groups)
 
   pub due_pass : (b i e : ℕ) (g : Gathered) → due own (pass b i e g) ≤ suc (due own g)
   unfolding pass
@@ -39,7 +39,7 @@ module _ (own : Option ℕ) where
     where
       go : (x : Bool) → total (in_set false own) (elim x as (λ y. Gathered) [ true ↦ g | false ↦ close i s g ]).groups ≤ suc (own_total (in_set false own) g.loose + total (in_set false own) g.groups)
       go true = omega arith
-      go false = total_group (in_set false own) (some i) s (g.edge - s) g.loose g.groups
+      go false = total_group (in_set false own) (Some i) s (g.edge - s) g.loose g.groups
 
   -- children that are no trees of the own type leave what is due as it is
   pub due_part : (s l : ℕ) (ws : List ℕ) (g : Gathered) → due own (gather (part s l ws) g) ≡ due own g

@@ -2,7 +2,7 @@
 use mathlib.Core.Path.{◌≡◌, refl, sym, ap, ◌∙◌}
 use mathlib.Core.Bool.{Bool, true, false, ◌||◌}
 use mathlib.Core.List.{List}
-use mathlib.Core.Option.{Option, none, some}
+use Rattle.std.specs.Prelude.{Option, None, Some}
 use Prim.Native.Nat.{ℕ, ◌+◌, ◌-◌, ◌*◌, ◌≤◌, ◌<◌}
 use native.Mathlib.Omega.{arith}
 use native.Mathlib.Decide.{dec_le}
@@ -35,11 +35,11 @@ siblings_some (tree t s l kids rest) h = omega arith
 siblings_some (part s l ws rest) h = omega arith
 
 -- a tree of an id has kind 1
-pub kind_some : (i : ℕ) → 1 ≡ kind (some i)
+pub kind_some : (i : ℕ) → 1 ≡ kind (Some i)
 unfolding kind
 kind_some i = refl
 
-pub id_some : (i : ℕ) → i ≡ id_word (some i)
+pub id_some : (i : ℕ) → i ≡ id_word (Some i)
 unfolding id_word
 id_some i = refl
 
@@ -51,7 +51,7 @@ module _ {w : List ℕ} {stack top i s e groups next : ℕ} where
   module _ {k : ℕ} (ek : k ≡ told w groups 8) where
     pub counted : (p : GroupsReady w stack top i s e groups next) → siblings p.us ≡ k
     counted p =
-        omega (arith, ek ∙ tells_trees false w p.base top p.low groups p.us p.holds, siblings_total (in_set false (some i)) p.us, p.room, p.under, p.fits)
+        omega (arith, ek ∙ tells_trees false w p.base top p.low groups p.us p.holds, siblings_total (in_set false (Some i)) p.us, p.room, p.under, p.fits)
 
     pub some_row : (p : GroupsReady w stack top i s e groups next) → 1 ≤ k
     some_row p = omega (arith, counted p, siblings_some p.us p.some_group)
@@ -61,7 +61,7 @@ module _ {w : List ℕ} {stack top i s e groups next : ℕ} where
       base = p.base;
       top = top;
       low = p.low;
-      type = in_set false (some i);
+      type = in_set false (Some i);
       us = p.us;
       tail = nil;
       inside = omega (arith, p.room, p.under, p.inside);
@@ -76,13 +76,13 @@ module _ {w : List ℕ} {stack top i s e groups next : ℕ} where
     module _ {size : ℕ} (es : (p : Row w groups k 1 i) → size ≡ total p.type p.us) where
       abbrev pub groups_ready : GroupsReady w stack top i s e groups next → BalanceReady w top stack groups k 1 i 1 i size next
       groups_ready p = record {
-        own = some i;
+        own = Some i;
         own_kind = kind_some i;
         own_id = id_some i;
         row = record {
           base = p.base;
           low = p.low;
-          type = in_set false (some i);
+          type = in_set false (Some i);
           us = p.us;
           tail = nil;
           rest = p.rest;
@@ -124,13 +124,13 @@ unfolding is_nil
 is_nil_nil ts e = rw e
 
 -- with no groups: the tree of the loose children
-pub finish_loose : (F i s e : ℕ) (g : Gathered) (rest : Trees) → g.groups ≡ nil → finish F i s e g ⊕ rest ≡ tree (some i) s (e - s) g.loose rest
+pub finish_loose : (F i s e : ℕ) (g : Gathered) (rest : Trees) → g.groups ≡ nil → finish F i s e g ⊕ rest ≡ tree (Some i) s (e - s) g.loose rest
 unfolding finish ◌⊕◌
 finish_loose F i s e g rest h =
     let t : (ltb i F || is_nil g.groups) ≡ true = or_true (ltb i F) (is_nil g.groups) (is_nil_nil g.groups h) in
     let kids : g.loose ⊕ g.groups ≡ g.loose = ap (λ (ts : Trees). g.loose ⊕ ts) h ∙ ⊕-nil g.loose in
-    ap (λ (x : Bool). elim x as (λ y. Trees) [ true ↦ tree (some i) s (e - s) (g.loose ⊕ g.groups) nil | false ↦ balance (in_set false (some i)) (in_set false (some i)) s (e - s) (rest_closed i s g).groups ] ⊕ rest) t
-    ∙ ap (λ (ts : Trees). tree (some i) s (e - s) ts rest) kids
+    ap (λ (x : Bool). elim x as (λ y. Trees) [ true ↦ tree (Some i) s (e - s) (g.loose ⊕ g.groups) nil | false ↦ balance (in_set false (Some i)) (in_set false (Some i)) s (e - s) (rest_closed i s g).groups ] ⊕ rest) t
+    ∙ ap (λ (ts : Trees). tree (Some i) s (e - s) ts rest) kids
 
 not_plain : (F i : ℕ) (ts : Trees) → (i < F → ts ≡ nil) → is_nil ts ≡ false → (ltb i F || is_nil ts) ≡ false
 unfolding is_nil
@@ -141,22 +141,22 @@ not_plain F i ts h q = go (dec_le F i)
     go (no a) = let z : ◌≡◌ {A = Bool} true false = sym (is_nil_nil ts (h (omega arith))) ∙ q in let y : ◌≡◌ {A = ℕ} 0 1 = cc in absurd (omega arith)
 
 -- a tree with groups is a repeat tree
-own_repeat : (F i : ℕ) (ts : Trees) → (i < F → ts ≡ nil) → is_nil ts ≡ false → repeats F i ≡ some i
+own_repeat : (F i : ℕ) (ts : Trees) → (i < F → ts ≡ nil) → is_nil ts ≡ false → repeats F i ≡ Some i
 unfolding repeats
 own_repeat F i ts h q = go (dec_le F i)
   where
-    go : Dec (F ≤ i) → repeats F i ≡ some i
-    go (yes a) = ap (λ (x : Bool). elim x as (λ y. Option ℕ) [ true ↦ none | false ↦ some i ]) (le-ltb i F a)
+    go : Dec (F ≤ i) → repeats F i ≡ Some i
+    go (yes a) = ap (λ (x : Bool). elim x as (λ y. Option ℕ) [ true ↦ None | false ↦ Some i ]) (le-ltb i F a)
     go (no a) = let z : ◌≡◌ {A = Bool} true false = sym (is_nil_nil ts (h (omega arith))) ∙ q in let y : ◌≡◌ {A = ℕ} 0 1 = cc in absurd (omega arith)
 
 finish_groups : (F i s e : ℕ) (g : Gathered) → (i < F → g.groups ≡ nil) → is_nil g.groups ≡ false
-    → finish F i s e g ≡ balance (in_set false (some i)) (in_set false (some i)) s (e - s) (rest_closed i s g).groups
+    → finish F i s e g ≡ balance (in_set false (Some i)) (in_set false (Some i)) s (e - s) (rest_closed i s g).groups
 unfolding finish
 finish_groups F i s e g h q =
-    ap (λ (x : Bool). elim x as (λ y. Trees) [ true ↦ tree (some i) s (e - s) (g.loose ⊕ g.groups) nil | false ↦ balance (in_set false (some i)) (in_set false (some i)) s (e - s) (rest_closed i s g).groups ])
+    ap (λ (x : Bool). elim x as (λ y. Trees) [ true ↦ tree (Some i) s (e - s) (g.loose ⊕ g.groups) nil | false ↦ balance (in_set false (Some i)) (in_set false (Some i)) s (e - s) (rest_closed i s g).groups ])
     (not_plain F i g.groups h q)
 
-pub nil_total : (ts : Trees) → 1 ≤ total (in_set false none) ts → is_nil ts ≡ false
+pub nil_total : (ts : Trees) → 1 ≤ total (in_set false None) ts → is_nil ts ≡ false
 unfolding total is_nil
 nil_total nil h = absurd (omega arith)
 nil_total (tree t s l kids rest) h = refl
@@ -189,7 +189,7 @@ module _ {w : List ℕ} {stack top i s e groups loose edge next : ℕ} where
     used = λ p. omega arith;
     holds = λ p.
         rw (finish_loose p.F i s e p.g p.rest (none_at w p.base top p.low groups p.g.groups p.holds.groups_at z), ← el)
-        (t.holds false p.base p.low (some i) p.g.loose p.rest p.live p.above (omega (arith, p.room, p.under)) refl refl p.holds.loose_at p.onto);
+        (t.holds false p.base p.low (Some i) p.g.loose p.rest p.live p.above (omega (arith, p.room, p.under)) refl refl p.holds.loose_at p.onto);
   }
 
   -- groups, after the children left over
@@ -197,11 +197,11 @@ module _ {w : List ℕ} {stack top i s e groups loose edge next : ℕ} where
     pub some_group : (p : FinishReady w stack top i s e groups loose edge next) → is_nil p.g.groups ≡ false
     some_group p = some_at w p.base top p.low groups p.g.groups p.holds.groups_at left
 
-    pub due_own : (p : FinishReady w stack top i s e groups loose edge next) → due (repeats p.F i) p.g ≡ due (some i) p.g
+    pub due_own : (p : FinishReady w stack top i s e groups loose edge next) → due (repeats p.F i) p.g ≡ due (Some i) p.g
     due_own p = ap (λ (own : Option ℕ). due own p.g) (own_repeat p.F i p.g.groups p.plain (some_group p))
 
-    pub room_closed : (p : FinishReady w stack top i s e groups loose edge next) → rtop + 24 * total (in_set false (some i)) (rest_closed i s p.g).groups ≤ stack
-    room_closed p = omega (arith, p.room, c.few, total_closed (some i) i s p.g, due_own p)
+    pub room_closed : (p : FinishReady w stack top i s e groups loose edge next) → rtop + 24 * total (in_set false (Some i)) (rest_closed i s p.g).groups ≤ stack
+    room_closed p = omega (arith, p.room, c.few, total_closed (Some i) i s p.g, due_own p)
 
     abbrev pub balance_ready : FinishReady w stack top i s e groups loose edge next → GroupsReady w₁ stack rtop i s e rgroups next
     balance_ready p = record {
@@ -218,7 +218,7 @@ module _ {w : List ℕ} {stack top i s e groups loose edge next : ℕ} where
       onto =
           frame false w w₁ p.base top p.low rtop p.low c.grown (omega arith)
           (same_less w w₁ 0 top (top + 10) p.base top p.low (omega arith) (omega arith) (omega (arith, p.room, p.under)) c.kept) next p.rest p.onto;
-      some_group = nil_total (rest_closed i s p.g).groups (total_rest_closed (in_set false none) i s p.g (some_group p));
+      some_group = nil_total (rest_closed i s p.g).groups (total_rest_closed (in_set false None) i s p.g (some_group p));
       ends = ends_well p.T (Parts p.T) s e (rest_closed i s p.g).groups (well_rest_closed p.T (Parts p.T) i s e p.g p.known p.gathers) p.last;
       room = room_closed p;
     }
@@ -233,6 +233,6 @@ module _ {w : List ℕ} {stack top i s e groups loose edge next : ℕ} where
         below = λ j l m. b.kept.below j l (omega (arith, c.grown)) ∙ c.kept.below j l m;
         above = λ j l. b.kept.above j l ∙ c.kept.above j (omega (arith, q.room));
       };
-      used = λ p. omega (arith, b.used (balance_ready p), c.few, total_closed (some i) i s p.g, due_own p);
+      used = λ p. omega (arith, b.used (balance_ready p), c.few, total_closed (Some i) i s p.g, due_own p);
       holds = λ p. rw (finish_groups p.F i s e p.g p.plain (some_group p)) (b.holds (balance_ready p));
     }

@@ -1,7 +1,7 @@
 -- What a tree has gathered, in a store; what passing over a record and finishing a tree ask of it and leave in it. Nothing here is needed to read what a call
 -- promises.
 use Rattle.std.specs.Prelude.{◌≡◌, false, List, ℕ, ◌+◌, ◌-◌, ◌*◌, ◌≤◌, ◌<◌, length}
-use Rattle.std.proofs.Math.Option.{Option, some}
+use Rattle.std.specs.Prelude.{Option, Some}
 use Rattle.tree.specs.Trees.{Trees, nil, ◌⊕◌, is_nil}
 use Rattle.tree.specs.Items.{repeats}
 use Rattle.tree.specs.Groups.{Gathered, close, pass, rest_closed, finish}
@@ -58,15 +58,15 @@ pub record GroupsReady (w : List ℕ) (stack top i s e groups next : ℕ) : Type
   pub onto : Holds false w base top low next rest
   pub some_group : is_nil us ≡ false
   pub ends : Ends us
-  pub room : top + 24 * total (in_set false (some i)) us ≤ stack
+  pub room : top + 24 * total (in_set false (Some i)) us ≤ stack
 
 -- the balanced tree stands before that list
 pub record GroupsBalanced (w w' : List ℕ) (stack top i s e groups next rtop rnode : ℕ) : Type 0 where
   pub grown : top ≤ rtop
   pub kept : Same w w' 0 top stack
-  pub used : (p : GroupsReady w stack top i s e groups next) → rtop ≤ top + 20 * total (in_set false (some i)) p.us
+  pub used : (p : GroupsReady w stack top i s e groups next) → rtop ≤ top + 20 * total (in_set false (Some i)) p.us
   pub holds : (p : GroupsReady w stack top i s e groups next)
-      → Holds false w' p.base rtop p.low rnode (balance (in_set false (some i)) (in_set false (some i)) s (e - s) p.us ⊕ p.rest)
+      → Holds false w' p.base rtop p.low rnode (balance (in_set false (Some i)) (in_set false (Some i)) s (e - s) p.us ⊕ p.rest)
 
 -- what the tree of a record of id i from s to e has gathered, and a list to stand before: 24 words for each unit that is due
 -- and 34 more are free between `top` and `stack`

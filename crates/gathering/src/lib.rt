@@ -6,7 +6,8 @@ ghost use Rattle.std.specs.Prelude.{◌+◌, ◌≤◌, ◌<◌, length};
 ghost use Rattle.store.specs.Store.{Readable, node_width};
 ghost use Rattle.gathering.specs.Gathering.{Closed, PassedOver, RestClosed, GroupsReady, GroupsBalanced, FinishReady, Finished};
 
-use store::{NODE_TREES, NODE_WIDTH};
+use balance_core::{Made, Parent};
+use store::{NODE_TREES, NODE_WIDTH, NodeType};
 
 // What a tree has gathered: closed groups, the children since then, the last group end.
 #[derive(Clone, Copy)]
@@ -25,14 +26,12 @@ fn make_repeat_leaf(work: &mut [u32], id: u32, start: u32, g: Gathering) -> Gath
     requires readable_2 { Readable work.old g.loose }
     ensures { Closed work.old work.new g.top id start g.groups g.loose g.edge result.top result.groups result.loose result.edge }
 {
-    let top = g.top;
-    let loose = g.loose;
-    let groups = g.groups;
-    let length = words::less(g.edge, start);
-    let made = store::push_tree(work, top, 1, id, start, length, loose, groups);
+    let length = g.edge.saturating_sub(start);
+    let own = NodeType { kind: 1, id };
+    let groups = store::push_tree(work, g.top, own, start, length, g.loose, g.groups);
     Gathering {
-        top: top + NODE_WIDTH,
-        groups: made,
+        top: g.top + NODE_WIDTH,
+        groups,
         loose: 0,
         edge: start,
     }
@@ -47,8 +46,7 @@ pub fn pass_over(work: &mut [u32], id: u32, end: u32, bound: u32, g: Gathering) 
     requires readable_2 { Readable work.old g.loose }
     ensures { PassedOver work.old work.new g.top id end bound g.groups g.loose g.edge result.top result.groups result.loose result.edge }
 {
-    let edge = g.edge;
-    if (end as u64) + (bound as u64) <= (edge as u64) {
+    if u64::from(end) + u64::from(bound) <= u64::from(g.edge) {
         return make_repeat_leaf(work, id, end, g);
     }
     g
@@ -62,8 +60,7 @@ fn close_rest(work: &mut [u32], id: u32, start: u32, g: Gathering) -> Gathering
     requires readable_2 { Readable work.old g.loose }
     ensures { RestClosed work.old work.new g.top id start g.groups g.loose g.edge result.top result.groups result.loose result.edge }
 {
-    let loose = g.loose;
-    if loose == 0 {
+    if g.loose == 0 {
         return g;
     }
     make_repeat_leaf(work, id, start, g)
@@ -79,19 +76,19 @@ fn balance_repeat(
     end: u32,
     groups: u32,
     next: u32,
-) -> balance_core::Made
+) -> Made
     requires { GroupsReady work.old stack top id start end groups next }
     ensures { GroupsBalanced work.old work.new stack top id start end groups next result.top result.node }
 {
     let k = store::tell(work, groups, NODE_TREES);
-    let size = balance_core::row_size(work, groups, k, 1, id);
-    let own = balance_core::Parent {
-        kind: 1,
-        id: id,
-        start: start,
-        length: words::less(end, start),
+    let own = NodeType { kind: 1, id };
+    let size = balance_core::row_size(work, groups, k, own);
+    let parent = Parent {
+        own,
+        start,
+        length: end.saturating_sub(start),
     };
-    balance_core::balance_range(work, top, stack, groups, k, size, 1, id, own, next)
+    balance_core::balance_range(work, top, stack, groups, k, size, own, parent, next)
 }
 
 // The tree of a record over what it has gathered, before the list `next`; groups are balanced.
@@ -104,16 +101,16 @@ pub fn finish_node(
     end: u32,
     g: Gathering,
     next: u32,
-) -> balance_core::Made
+) -> Made
     requires { FinishReady work.old stack g.top id start end g.groups g.loose g.edge next }
     ensures { Finished work.old work.new stack g.top id start end g.groups g.loose g.edge next result.top result.node }
 {
-    let top = g.top;
     if g.groups == 0 {
-        let length = words::less(end, start);
-        let made = store::push_tree(work, top, 1, id, start, length, g.loose, next);
-        return balance_core::Made {
-            top: top + NODE_WIDTH,
+        let length = end.saturating_sub(start);
+        let own = NodeType { kind: 1, id };
+        let made = store::push_tree(work, g.top, own, start, length, g.loose, next);
+        return Made {
+            top: g.top + NODE_WIDTH,
             node: made,
         };
     }

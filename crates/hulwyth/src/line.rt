@@ -1,112 +1,63 @@
 // The words of a line, and the numbers that they spell.
-ghost use Rattle.std.specs.Prelude.{◌≤◌, length};
+ghost use Rattle.std.specs.Prelude.{length};
+ghost use Rattle.std.specs.Iterator.{at_most};
 
 use crate::problem::Problem;
 
-// A number that a word spells.
-#[derive(Drop)]
-pub enum Value {
-    Of(u32),
-    Bad(Problem),
-}
-
 // Is it a space, a tab or the carriage return before a line break?
 fn is_blank(byte: u8) -> bool {
-    if byte == b' ' {
-        return true;
-    }
-    if byte == b'\t' {
-        return true;
-    }
-    byte == b'\r'
+    matches!(byte, b' ' | b'\t' | b'\r')
 }
 
-fn is_digit(byte: u8) -> bool {
-    if byte < b'0' {
-        return false;
-    }
-    byte <= b'9'
+// The words of a line, with blanks around them.
+#[derive(Drop)]
+pub struct Words<'a> {
+    rest: &'a [u8],
 }
 
-// Where the blanks from a place on end.
-pub fn blanks_end(line: &[u8], from: usize) -> usize
-    requires { from ≤ length line.now }
-    ensures lower_bound { from ≤ result }
-    ensures upper_bound { result ≤ length line.now }
-{
-    let mut at = from;
-    while at < line.len() {
-        if !is_blank(line[at]) {
-            return at;
-        }
-        at += 1;
+impl<'a> Words<'a> {
+    pub fn of(line: &'a [u8]) -> Words<'a> {
+        Words { rest: line }
     }
-    at
 }
 
-// Where the word from a place on ends.
-pub fn word_end(line: &[u8], from: usize) -> usize
-    requires { from ≤ length line.now }
-    ensures lower_bound { from ≤ result }
-    ensures upper_bound { result ≤ length line.now }
-{
-    let mut at = from;
-    while at < line.len() {
-        if is_blank(line[at]) {
-            return at;
-        }
-        at += 1;
+impl<'a> Iterator for Words<'a> {
+    type Item = &'a [u8];
+
+    ghost remaining = { λ s. at_most (length s.rest.now) };
+
+    fn next(&mut self) -> Option<&'a [u8]> {
+        let line = self.rest;
+        let start = line.iter().position(|byte| !is_blank(*byte))?;
+        let second = start + 1;
+        let end = match line[second..].iter().position(|byte| is_blank(*byte)) {
+            Some(more) => second + more,
+            None => line.len(),
+        };
+        self.rest = &line[end..];
+        Some(&line[start..end])
     }
-    at
 }
 
 // The number that a word spells.
-pub fn value_of(word: &[u8]) -> Value {
-    if word.len() == 0 {
-        return Value::Bad(Problem::Missing);
-    }
-    let number = text::number_at(word, 0);
-    if number.next != word.len() {
-        return Value::Bad(Problem::NoNumber);
-    }
-    if number.negative {
-        return Value::Bad(Problem::NoNumber);
-    }
-    let value = number.value;
-    if 4294967295 < value {
-        return Value::Bad(Problem::Wide);
-    }
-    Value::Of(value as u32)
+pub fn value_of(word: Option<&[u8]>) -> Result<u32, Problem> {
+    let value = text::number(word.ok_or(Problem::Missing)?).ok_or(Problem::NoNumber)?;
+    u32::try_from(value).map_err(|_| Problem::Wide)
 }
 
-// Puts the numbers of a line, from a place on, into `out`: as many as it holds, and nothing else stands there.
-pub fn read_numbers(line: &[u8], from: usize, out: &mut [u32]) -> Problem
-    requires { from ≤ length line.now }
-{
-    let mut at = from;
-    let mut i: usize = 0;
-    while i < out.len() {
-        let start = blanks_end(line, at);
-        let end = word_end(line, start);
-        let value = value_of(&line[start..end]);
-        match value {
-            Value::Of(number) => out[i] = number,
-            Value::Bad(problem) => return problem,
-        }
-        at = end;
-        i += 1;
+// The numbers that words spell: so many, and nothing else stands there.
+pub fn numbers<const N: usize>(mut words: Words<'_>) -> Result<[u32; N], Problem> {
+    let mut numbers = [0; N];
+    for number in numbers.iter_mut() {
+        *number = value_of(words.next())?;
     }
-    if blanks_end(line, at) < line.len() {
-        return Problem::More;
+    match words.next() {
+        None => Ok(numbers),
+        Some(_) => Err(Problem::More),
     }
-    Problem::Nothing
 }
 
 // Is it a record's line?
 pub fn is_record(line: &[u8]) -> bool {
-    let at = blanks_end(line, 0);
-    if at == line.len() {
-        return false;
-    }
-    is_digit(line[at])
+    matches!(Words::of(line).next(), Some([b'0'..=b'9', ..]))
 }

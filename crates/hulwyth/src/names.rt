@@ -1,84 +1,66 @@
-// The names that ids are shown with: 1,024 rooms of 32 bytes, filled up with zeros.
-ghost use Rattle.std.specs.Prelude.{◌≡◌, ◌≤◌, length};
-
-use crate::line::{Value, blanks_end, value_of, word_end};
-use crate::output::{put, put_digits};
+// The names that ids are shown with.
+use crate::line::{Words, value_of};
+use crate::output::Page;
 use crate::problem::Problem;
+use std::fmt;
+use std::fmt::Write;
 
 // How many ids can have a name, and how many bytes a name has room for.
-const NAMED: u32 = 1024;
+const NAMED: usize = 1024;
 
 const NAME: usize = 32;
 
-// Keeps the name of an id, with zeros behind it.
-fn keep_name(name: &[u8], id: u32, names: &mut [u8]) -> Problem
-    requires { 32768 ≡ length names.old }
-{
-    if name.len() == 0 {
-        return Problem::NoName;
-    }
-    if NAME < name.len() {
-        return Problem::LongName;
-    }
-    if NAMED <= id {
-        return Problem::HighId;
-    }
-    let slot = id as usize * NAME;
-    if names[slot] != 0 {
-        return Problem::Twice;
-    }
-    names[slot..slot + name.len()].copy_from_slice(name);
-    Problem::Nothing
+// A room for each name, filled up with zeros: the program allocates nothing.
+#[derive(Drop)]
+pub struct Names {
+    rooms: [[u8; NAME]; NAMED],
 }
 
-// Reads an id and its name.
-pub fn read_name(line: &[u8], from: usize, names: &mut [u8]) -> Problem
-    requires from_in_bounds { from ≤ length line.now }
-    requires value { 32768 ≡ length names.old }
-{
-    let start = blanks_end(line, from);
-    let end = word_end(line, start);
-    let value = value_of(&line[start..end]);
-    let first = blanks_end(line, end);
-    let last = word_end(line, first);
-    if blanks_end(line, last) < line.len() {
-        return Problem::More;
-    }
-    match value {
-        Value::Of(id) => keep_name(&line[first..last], id, names),
-        Value::Bad(problem) => problem,
-    }
-}
-
-// Where the name that starts at a place ends: at the first zero, or behind its last byte.
-fn name_end(names: &[u8], from: usize, limit: usize) -> usize
-    requires from_le_limit { from ≤ limit }
-    requires limit_in_bounds { limit ≤ length names.now }
-    ensures lower_bound { from ≤ result }
-    ensures upper_bound { result ≤ limit }
-{
-    let mut at = from;
-    while at < limit {
-        if names[at] == 0 {
-            return at;
+impl Names {
+    pub fn new() -> Names {
+        Names {
+            rooms: [[0; NAME]; NAMED],
         }
-        at += 1;
     }
-    at
-}
 
-// An id and the name that it has, if any.
-pub fn print_id(page: &mut [u8], names: &[u8], id: u32)
-    requires { 32768 ≡ length names.now }
-{
-    put_digits(page, id as u64);
-    if NAMED <= id {
-        return;
+    // Keeps the name of an id, with zeros behind it.
+    fn keep(&mut self, id: u32, name: &[u8]) -> Result<(), Problem> {
+        if NAME < name.len() {
+            return Err(Problem::LongName);
+        }
+        let room = self.rooms.get_mut(id as usize).ok_or(Problem::HighId)?;
+        if room[0] != 0 {
+            return Err(Problem::Twice);
+        }
+        room[..name.len()].copy_from_slice(name);
+        Ok(())
     }
-    let from = id as usize * NAME;
-    let end = name_end(names, from, from + NAME);
-    if from < end {
-        put(page, b" ");
-        put(page, &names[from..end]);
+
+    // Reads an id and its name.
+    pub fn read(&mut self, mut words: Words<'_>) -> Result<(), Problem> {
+        let id = value_of(words.next());
+        let name = words.next();
+        if words.next().is_some() {
+            return Err(Problem::More);
+        }
+        self.keep(id?, name.ok_or(Problem::NoName)?)
+    }
+
+    // The name of an id, up to the first zero; none where it is empty.
+    fn name_of(&self, id: u32) -> Option<&[u8]> {
+        match self.rooms.get(id as usize)?.split(|byte| *byte == 0).next() {
+            Some([]) => None,
+            name => name,
+        }
+    }
+
+    // An id and the name that it has, if any.
+    pub fn print_id(&self, page: &mut Page, id: u32) -> fmt::Result {
+        write!(page, "{id}")?;
+        if let Some(name) = self.name_of(id) {
+            page.put(b" ");
+            page.put(name);
+        }
+        Ok(())
     }
 }

@@ -1,122 +1,75 @@
 // The arguments that the program is started with.
-use crate::output::{put, put_number};
+use crate::output::Page;
 use std::env::{Env, FillError};
+use std::fmt;
+use std::fmt::Write;
 
 // What they ask for.
-#[derive(Clone, Copy)]
+#[derive(Clone, Copy, Default)]
 pub struct Options {
     // The usage, and nothing else.
     pub help: bool,
     // The cells and the packed words, too.
     pub cells: bool,
     pub words: bool,
-    // The number of the argument that names the file, or 0: the text comes from standard input.
-    pub file: usize,
-    // The number of the first argument that means nothing, or 0.
-    pub bad: usize,
+    // The number of the argument that names the file; without one the text comes from standard input.
+    pub file: Option<usize>,
+    // The number of the first argument that means nothing.
+    pub bad: Option<usize>,
 }
 
 // Is it written as an option? A - alone is standard input.
 fn is_option(word: &[u8]) -> bool {
-    if word.len() < 2 {
-        return false;
-    }
-    word[0] == b'-'
+    matches!(word, [b'-', _, ..])
 }
 
-// Argument i means nothing.
-fn with_bad(so_far: Options, i: usize) -> Options {
-    let mut options = so_far;
-    if options.bad == 0 {
-        options.bad = i;
+impl Options {
+    // Argument i means nothing.
+    fn refuse(&mut self, i: usize) {
+        self.bad = self.bad.or(Some(i));
     }
-    options
-}
 
-// Argument i names the file, if none before it does.
-fn with_file(so_far: Options, i: usize) -> Options {
-    if so_far.file != 0 {
-        return with_bad(so_far, i);
-    }
-    let mut options = so_far;
-    options.file = i;
-    options
-}
-
-// What argument i adds, by its text.
-fn with_word(so_far: Options, word: &[u8], i: usize) -> Options {
-    let mut options = so_far;
-    if check::same(word, b"--cells") {
-        options.cells = true;
-        return options;
-    }
-    if check::same(word, b"--words") {
-        options.words = true;
-        return options;
-    }
-    if check::same(word, b"--help") {
-        options.help = true;
-        return options;
-    }
-    if check::same(word, b"-h") {
-        options.help = true;
-        return options;
-    }
-    if is_option(word) {
-        return with_bad(so_far, i);
-    }
-    with_file(so_far, i)
-}
-
-// What argument i adds; nothing where there are fewer. One that no path has the length of means nothing.
-fn with_argument(rt: HostRuntime, so_far: Options, i: usize) -> Option<Options> {
-    let mut word = io::buffer();
-    match rt.arg(i, &mut word) {
-        Ok(count) => Some(with_word(so_far, &word[..count], i)),
-        Err(FillError::TooLong) => Some(with_bad(so_far, i)),
-        Err(FillError::NotPresent) => None,
+    // Adds what argument i asks for, by its text.
+    fn add(&mut self, word: &[u8], i: usize) {
+        match word {
+            b"--cells" => self.cells = true,
+            b"--words" => self.words = true,
+            b"--help" | b"-h" => self.help = true,
+            _ if is_option(word) || self.file.is_some() => self.refuse(i),
+            _ => self.file = Some(i),
+        }
     }
 }
 
-// What all arguments ask for.
+// What all arguments ask for. One that no path has the length of means nothing.
 pub fn asked(rt: HostRuntime) -> Options {
-    let mut options = Options {
-        help: false,
-        cells: false,
-        words: false,
-        file: 0,
-        bad: 0,
-    };
+    let mut options = Options::default();
     for i in 1..usize::MAX {
-        match with_argument(rt, options, i) {
-            Some(more) => options = more,
-            None => break,
+        let mut word = io::buffer();
+        match rt.arg(i, &mut word) {
+            Ok(count) => options.add(&word[..count], i),
+            Err(FillError::TooLong) => options.refuse(i),
+            Err(FillError::NotPresent) => break,
         }
     }
     options
-}
-
-// Says what is wrong with a word that is no argument.
-fn print_wrong(page: &mut [u8], word: &[u8]) {
-    if is_option(word) {
-        put(page, b"unknown option ");
-        return;
-    }
-    put(page, b"one file is read, and this is another: ");
 }
 
 // Says why argument i means nothing.
-pub fn print_bad(rt: HostRuntime, page: &mut [u8], i: usize) {
+pub fn print_bad(rt: HostRuntime, page: &mut Page, i: usize) -> fmt::Result {
     let mut word = io::buffer();
     match rt.arg(i, &mut word) {
         Ok(count) => {
-            print_wrong(page, &word[..count]);
-            put(page, &word[..count]);
-            put(page, b"; hulwyth --help shows what can be given\n");
+            let word = &word[..count];
+            page.put(if is_option(word) {
+                b"unknown option "
+            } else {
+                b"one file is read, and this is another: "
+            });
+            page.put(word);
+            page.put(b"; hulwyth --help shows what can be given\n");
+            Ok(())
         }
-        Err(_) => {
-            put_number(page, b"argument ", i as u64);
-            put(page, b" is longer than any path\n");
-        }
+        Err(_) => writeln!(page, "argument {i} is longer than any path"),
     }
 }

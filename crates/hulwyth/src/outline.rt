@@ -1,189 +1,127 @@
 // A tree that is handed in as cells and packed words, as an indented outline. Links and parts that lie outside the slices,
 // which no tree of the build has, are passed over.
-ghost use Rattle.std.specs.Prelude.{◌≡◌, ◌+◌, ◌*◌, ◌≤◌, length};
-ghost use Rattle.tree.specs.Cells.{cell_width};
+ghost use Rattle.std.specs.Prelude.{◌*◌, ◌≤◌, length};
 
-use crate::names::print_id;
-use crate::output::put;
-use crate::packed::{print_indent, print_part_at, print_range};
-use tree::{CELL_WIDTH, COUNT, FIRST, ID, KIND, LENGTH, NEXT, POSITION};
+use crate::names::Names;
+use crate::output::Page;
+use crate::packed::{Part, print_indent, print_part};
+use std::fmt;
+use std::fmt::Write;
+use tree::CELL_WIDTH;
 
-// What a cell is: a tree is shown by its id.
-fn print_label(page: &mut [u8], names: &[u8], kind: u32, id: u32)
-    requires { 32768 ≡ length names.now }
-{
-    if kind == 1 {
-        print_id(page, names, id);
-        return;
-    }
-    if kind == 2 {
-        put(page, b"part");
-        return;
-    }
-    put(page, b"tree of no type");
+type Cell = [u32; CELL_WIDTH];
+
+// The start that a cell counts its position from, and its depth.
+type Note = [u32; 2];
+
+// What a cell is.
+#[derive(Clone, Copy, PartialEq, Eq)]
+enum Kind {
+    Tree,
+    Part,
+    Other,
 }
 
-// The end of a cell's line: a repeat tree is marked.
-fn print_mark(page: &mut [u8], first_repeat: u32, kind: u32, id: u32) {
-    if kind == 1 {
-        if first_repeat <= id {
-            put(page, b" repeat\n");
-            return;
+impl From<u32> for Kind {
+    fn from(word: u32) -> Kind {
+        match word {
+            1 => Kind::Tree,
+            2 => Kind::Part,
+            _ => Kind::Other,
         }
     }
-    put(page, b"\n");
 }
 
-// The line of a cell. Its end can be above 32 bits: the length of the top is any that is given.
-fn print_cell(
-    page: &mut [u8],
-    names: &[u8],
-    first_repeat: u32,
-    kind: u32,
-    id: u32,
-    start: u32,
-    long: u32,
-)
-    requires { 32768 ≡ length names.now }
-{
-    print_label(page, names, kind, id);
-    print_range(page, start as u64, start as u64 + long as u64);
-    print_mark(page, first_repeat, kind, id);
+// What an outline is made of: a tree, and how its ids are shown.
+#[derive(Clone, Copy)]
+pub struct Outline<'a> {
+    pub names: &'a Names,
+    pub first_repeat: u32,
+    pub cells: &'a [Cell],
+    pub words: &'a [u16],
 }
 
-// Notes the start that cell x, counted from 1, counts its position from, and its depth. What is noted for cell 0 is not read.
-fn note(notes: &mut [u32], x: u32, base: u32, depth: u32) {
-    let at = x as usize * 2;
-    if at + 1 < notes.len() {
-        notes[at] = base;
-        notes[at + 1] = depth;
+// Notes something for cell x, counted from 1. What is noted for cell 0 is not read.
+fn note(notes: &mut [Note], x: u32, noted: Note) {
+    if let Some(place) = notes.get_mut(x as usize) {
+        *place = noted;
     }
 }
 
-// The line of cell i, counted from 0, and of a part's records.
-fn print_one(
-    page: &mut [u8],
-    names: &[u8],
-    first_repeat: u32,
-    cells: &[u32],
-    words: &[u16],
-    i: usize,
-    base: u32,
-    depth: u32,
-    ends: &mut [u16],
-)
-    requires value { 32768 ≡ length names.now }
-    requires words_in_bounds { length words.now ≤ length ends.old }
-    requires cell_width_in_bounds { i * cell_width + cell_width ≤ length cells.now }
-{
-    let kind = cells[i * CELL_WIDTH + KIND];
-    let id = cells[i * CELL_WIDTH + ID];
-    let start = std::num::wrapping_add_u32(base, cells[i * CELL_WIDTH + POSITION]);
-    let long = cells[i * CELL_WIDTH + LENGTH];
-    let first = words::index(cells[i * CELL_WIDTH + FIRST]);
-    let count = words::index(cells[i * CELL_WIDTH + COUNT]);
-    print_indent(page, depth as usize);
-    print_cell(page, names, first_repeat, kind, id, start, long);
-    if kind == 2 {
-        print_part_at(
-            page,
-            names,
-            words,
+// Notes what the next sibling and the first child of a cell need.
+fn note_links(notes: &mut [Note], cell: &Cell, [base, depth]: Note) {
+    let [kind, _, position, _, first, _, next] = *cell;
+    note(notes, next, [base, depth]);
+    if Kind::from(kind) != Kind::Part {
+        note(
+            notes,
             first,
-            count,
-            start,
-            depth as usize + 1,
-            ends,
+            [base.wrapping_add(position), depth.wrapping_add(1)],
         );
     }
 }
 
-// The line of cell i, counted from 0, at what is noted for it.
-fn print_noted(
-    page: &mut [u8],
-    names: &[u8],
-    first_repeat: u32,
-    cells: &[u32],
-    words: &[u16],
-    i: usize,
-    notes: &[u32],
-    ends: &mut [u16],
-)
-    requires value { 32768 ≡ length names.now }
-    requires words_in_bounds { length words.now ≤ length ends.old }
-    requires cell_width_in_bounds { i * cell_width + cell_width ≤ length cells.now }
-    requires i_in_bounds { i * 2 + 4 ≤ length notes.now }
-{
-    let base = notes[i * 2 + 2];
-    let depth = notes[i * 2 + 3];
-    print_one(
-        page,
-        names,
-        first_repeat,
-        cells,
-        words,
-        i,
-        base,
-        depth,
-        ends,
-    );
-}
-
-// Notes what the next sibling and the first child of cell i, counted from 0, need.
-fn note_links(cells: &[u32], i: usize, notes: &mut [u32])
-    requires cell_width_in_bounds { i * cell_width + cell_width ≤ length cells.now }
-    requires i_in_bounds { i * 2 + 4 ≤ length notes.old }
-{
-    let base = notes[i * 2 + 2];
-    let depth = notes[i * 2 + 3];
-    note(notes, cells[i * CELL_WIDTH + NEXT], base, depth);
-    if cells[i * CELL_WIDTH + KIND] != 2 {
-        let start = std::num::wrapping_add_u32(base, cells[i * CELL_WIDTH + POSITION]);
-        let deeper = std::num::wrapping_add_u32(depth, 1);
-        note(notes, cells[i * CELL_WIDTH + FIRST], start, deeper);
+impl Outline<'_> {
+    // What a cell is: a tree is shown by its id.
+    fn print_label(&self, page: &mut Page, kind: Kind, id: u32) -> fmt::Result {
+        match kind {
+            Kind::Tree => self.names.print_id(page, id),
+            Kind::Part => page.write_str("part"),
+            Kind::Other => page.write_str("tree of no type"),
+        }
     }
-}
 
-// The line of cell i, counted from 0, and the notes that it leaves.
-fn print_next(
-    page: &mut [u8],
-    names: &[u8],
-    first_repeat: u32,
-    cells: &[u32],
-    words: &[u16],
-    i: usize,
-    notes: &mut [u32],
-    ends: &mut [u16],
-)
-    requires value { 32768 ≡ length names.now }
-    requires words_in_bounds { length words.now ≤ length ends.old }
-    requires cell_width_in_bounds { i * cell_width + cell_width ≤ length cells.now }
-    requires i_in_bounds { i * 2 + 4 ≤ length notes.old }
-{
-    print_noted(page, names, first_repeat, cells, words, i, notes, ends);
-    note_links(cells, i, notes);
-}
+    // The line of a cell, and of a part's records. The end can be above 32 bits: the length of the top is any that is given.
+    fn print_cell(&self, page: &mut Page, cell: &Cell, noted: Note, ends: &mut [u16]) -> fmt::Result
+        requires { length self.now.words.now ≤ length ends.old }
+    {
+        let [base, depth] = noted;
+        let [kind, id, position, long, first, count, _] = *cell;
+        let kind = Kind::from(kind);
+        let start = base.wrapping_add(position);
+        print_indent(page, depth as usize);
+        self.print_label(page, kind, id)?;
+        write!(page, " {start}..{}", u64::from(start) + u64::from(long))?;
+        if kind == Kind::Tree && self.first_repeat <= id {
+            page.put(b" repeat");
+        }
+        page.put(b"\n");
+        if kind == Kind::Part {
+            let (first, count) = (first as usize, count as usize);
+            if let Some(words) = self.words.get(first..first + count) {
+                print_part(
+                    page,
+                    self.names,
+                    Part {
+                        words,
+                        start,
+                        depth,
+                    },
+                    ends,
+                )?;
+            }
+        }
+        Ok(())
+    }
 
-// The outline of a tree whose top starts at `start`.
-pub fn print_tree(
-    page: &mut [u8],
-    names: &[u8],
-    first_repeat: u32,
-    start: u32,
-    cells: &[u32],
-    words: &[u16],
-    notes: &mut [u32],
-    ends: &mut [u16],
-)
-    requires value { 32768 ≡ length names.now }
-    requires words_in_bounds { length words.now ≤ length ends.old }
-    requires cells_in_bounds { length cells.now ≤ length notes.old }
-{
-    note(notes, 1, start, 0);
-    let count = cells.len() / CELL_WIDTH;
-    let mut i: usize = 0;
-    while i < count {
-        print_next(page, names, first_repeat, cells, words, i, notes, ends);
-        i += 1;
+    // The outline of a tree whose top starts at `start`. `work` has room for the notes, `ends` for the ends of a part's records.
+    pub fn print(
+        &self,
+        page: &mut Page,
+        start: u32,
+        work: &mut [u32],
+        ends: &mut [u16],
+    ) -> fmt::Result
+        requires cells_in_bounds { length self.now.cells.now * 7 ≤ length work.old }
+        requires words_in_bounds { length self.now.words.now ≤ length ends.old }
+    {
+        let (notes, _) = work.as_chunks_mut::<2>();
+        note(notes, 1, [start, 0]);
+        for (i, cell) in self.cells.iter().enumerate() {
+            let noted = notes[i + 1];
+            self.print_cell(page, cell, noted, ends)?;
+            note_links(notes, cell, noted);
+        }
+        Ok(())
     }
 }

@@ -1,163 +1,103 @@
 // A record list out of a text: docs/FORMAT.md says how it is written.
-ghost use Rattle.std.specs.Prelude.{◌≡◌, ◌+◌, ◌<◌, ◌≤◌, length};
+ghost use Rattle.std.specs.Prelude.{◌≤◌};
 
-use crate::line::{blanks_end, is_record, read_numbers, word_end};
-use crate::names::read_name;
-use crate::problem::{Problem, is_fine};
-use crate::settings::{SETTINGS, read_setting, setting_of};
+use crate::line::{Words, is_record, numbers};
+use crate::names::Names;
+use crate::problem::{Fault, Problem};
+use crate::settings::{Settings, read_setting};
 use words::RECORD_WIDTH;
 
-// How far the reading came: the words of the records so far, and what is wrong with the line.
+// The records that a list can have.
+const RECORDS: usize = 4096;
+
+// A list as far as its text was read. The records stand in an array, since the program allocates nothing.
 #[derive(Drop)]
-struct Progress {
+pub struct List {
+    pub settings: Settings,
+    pub names: Names,
+    rooms: [[u32; RECORD_WIDTH]; RECORDS],
     held: usize,
-    problem: Problem,
+    ghost within: { held ≤ 4096 },
 }
 
-// What was read: the words of the records; the line at fault, and what is wrong with it.
-#[derive(Drop)]
-pub struct Text {
-    pub held: usize,
-    pub line: usize,
-    pub problem: Problem,
+// A line without its comment.
+fn before_comment(line: &[u8]) -> &[u8] {
+    match line.iter().position(|byte| *byte == b'#') {
+        Some(end) => &line[..end],
+        None => line,
+    }
 }
 
-// Where a line's comment starts; the line's end where it has none.
-fn comment_start(text: &[u8], from: usize, end: usize) -> usize
-    requires from_le_end { from ≤ end }
-    requires end_in_bounds { end ≤ length text.now }
-    ensures lower_bound { from ≤ result }
-    ensures upper_bound { result ≤ end }
-{
-    let mut at = from;
-    while at < end {
-        if text[at] == b'#' {
-            return at;
+impl List {
+    pub fn new() -> List {
+        List {
+            settings: Settings::default(),
+            names: Names::new(),
+            rooms: [[0; RECORD_WIDTH]; RECORDS],
+            held: 0,
         }
-        at += 1;
     }
-    at
-}
 
-// Reads a record behind those that are held.
-fn read_record(line: &[u8], records: &mut [u32], held: usize) -> Progress
-    requires { held ≤ length records.old }
-    ensures { result.held ≤ length records.new }
-{
-    if records.len() - held < RECORD_WIDTH {
-        return Progress {
-            held: held,
-            problem: Problem::Full,
-        };
+    pub fn records(&self) -> &[[u32; RECORD_WIDTH]] {
+        &self.rooms[..self.held]
     }
-    let next = held + RECORD_WIDTH;
-    let problem = read_numbers(line, 0, &mut records[held..next]);
-    Progress {
-        held: next,
-        problem: problem,
-    }
-}
 
-// Reads a line that starts with a word.
-fn read_word(line: &[u8], at: usize, settings: &mut [u64], names: &mut [u8]) -> Problem
-    requires at_in_bounds { at ≤ length line.now }
-    requires value { 6 ≡ length settings.old }
-    requires value_2 { 32768 ≡ length names.old }
-{
-    let end = word_end(line, at);
-    let which = setting_of(&line[at..end]);
-    if which < SETTINGS {
-        return read_setting(line, end, which, settings);
-    }
-    if which == SETTINGS {
-        return read_name(line, end, names);
-    }
-    Problem::Unknown
-}
-
-// Reads a line without its comment.
-fn read_line(
-    line: &[u8],
-    settings: &mut [u64],
-    names: &mut [u8],
-    records: &mut [u32],
-    held: usize,
-) -> Progress
-    requires value { 6 ≡ length settings.old }
-    requires value_2 { 32768 ≡ length names.old }
-    requires held_in_bounds { held ≤ length records.old }
-    ensures { result.held ≤ length records.new }
-{
-    if is_record(line) {
-        return read_record(line, records, held);
-    }
-    let at = blanks_end(line, 0);
-    if at == line.len() {
-        return Progress {
-            held: held,
-            problem: Problem::Nothing,
-        };
-    }
-    let problem = read_word(line, at, settings, names);
-    Progress {
-        held: held,
-        problem: problem,
-    }
-}
-
-// Reads a text, up to the first line that is at fault.
-pub fn read_text(text: &[u8], settings: &mut [u64], names: &mut [u8], records: &mut [u32]) -> Text
-    requires value { 6 ≡ length settings.old }
-    requires value_2 { 32768 ≡ length names.old }
-    ensures { result.held ≤ length records.new }
-{
-    let mut held: usize = 0;
-    let mut line: usize = 1;
-    let mut at: usize = 0;
-    while at < text.len() {
-        let end = text::line_end(text, at);
-        let stop = comment_start(text, at, end);
-        let after = read_line(&text[at..stop], settings, names, records, held);
-        let problem = after.problem;
-        held = after.held;
-        if !is_fine(problem) {
-            return Text {
-                held: held,
-                line: line,
-                problem: problem,
-            };
+    // Reads a record behind those that are held.
+    fn read_record(&mut self, words: Words<'_>) -> Result<(), Problem> {
+        if self.held == RECORDS {
+            return Err(Problem::Full);
         }
-        if end == text.len() {
-            break;
-        }
-        line += 1;
-        at = end + 1;
+        self.rooms[self.held] = numbers(words)?;
+        self.held += 1;
+        Ok(())
     }
-    Text {
-        held: held,
-        line: line,
-        problem: Problem::Nothing,
-    }
-}
 
-// The line of record `number`, counted from 0, in a text that has so many.
-pub fn line_of(text: &[u8], number: usize) -> usize {
-    let mut left = number;
-    let mut line: usize = 1;
-    let mut at: usize = 0;
-    while at < text.len() {
-        let end = text::line_end(text, at);
-        if is_record(&text[at..end]) {
-            if left == 0 {
-                return line;
+    // Reads a line that starts with a word, from behind it.
+    fn read_word(&mut self, word: &[u8], words: Words<'_>) -> Result<(), Problem> {
+        let settings = &mut self.settings;
+        match word {
+            b"types" => read_setting(&mut settings.types, words),
+            b"first-repeat" => read_setting(&mut settings.first_repeat, words),
+            b"bound" => read_setting(&mut settings.bound, words),
+            b"start" => read_setting(&mut settings.start, words),
+            b"top" => read_setting(&mut settings.top, words),
+            b"length" => read_setting(&mut settings.length, words),
+            b"name" => self.names.read(words),
+            _ => Err(Problem::Unknown),
+        }
+    }
+
+    // Reads a line without its comment.
+    fn read_line(&mut self, line: &[u8]) -> Result<(), Problem> {
+        let mut words = Words::of(line);
+        if is_record(line) {
+            return self.read_record(words);
+        }
+        match words.next() {
+            None => Ok(()),
+            Some(word) => self.read_word(word, words),
+        }
+    }
+
+    // Reads a text, up to the first line that is at fault.
+    pub fn read(&mut self, text: &[u8]) -> Result<(), Fault> {
+        for (i, line) in text::lines(text).enumerate() {
+            if let Err(problem) = self.read_line(before_comment(line)) {
+                return Err(Fault {
+                    line: i + 1,
+                    problem,
+                });
             }
-            left -= 1;
         }
-        line += 1;
-        if end == text.len() {
-            break;
-        }
-        at = end + 1;
+        Ok(())
     }
-    line
+}
+
+// The line of record `number` of a text, which is counted from 0; lines are counted from 1.
+pub fn line_of(text: &[u8], number: usize) -> Option<usize> {
+    let mut lines = text::lines(text)
+        .enumerate()
+        .filter(|(_, line)| is_record(line));
+    let (before, _) = lines.nth(number)?;
+    Some(before + 1)
 }

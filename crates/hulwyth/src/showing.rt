@@ -1,205 +1,102 @@
 // A tree that was built, shown: its outline, its tables and its listing.
-ghost use Rattle.std.specs.Prelude.{◌≡◌, ◌≤◌, length};
-ghost use Rattle.io.specs.Counts.{IsPrefixLen};
+ghost use Rattle.std.specs.Prelude.{◌*◌, ◌≤◌, length};
 
 use crate::options::Options;
-use crate::output::{put, put_number};
+use crate::outline::Outline;
+use crate::output::Page;
+use crate::reading::List;
 use crate::settings::Numbers;
-use crate::{messages, outline, rooms, tables};
-use listing::Listed;
+use crate::{messages, rooms, tables};
+use std::fmt;
+use std::fmt::Write;
 use tree::{CELL_WIDTH, LINE_WIDTH};
 use words::RECORD_WIDTH;
 
-// How many words so many cells have, as far as the slice goes.
-fn cell_words(count: usize, cells: &[u32]) -> usize
-    ensures { IsPrefixLen result cells.now }
-{
-    if cells.len() / CELL_WIDTH < count {
-        return cells.len();
-    }
-    count * CELL_WIDTH
+// The words of 4,096 lines.
+const LINES: usize = 16384;
+
+// What is shown: a list, the numbers that it was built with, its tree as cells and packed words, and what the arguments ask for.
+#[derive(Clone, Copy)]
+pub struct Shown<'a> {
+    pub list: &'a List,
+    pub numbers: Numbers,
+    pub cells: &'a [u32],
+    pub words: &'a [u16],
+    pub options: Options,
 }
 
-// The same of lines.
-fn line_words(count: usize, lines: &[u32]) -> usize
-    ensures { IsPrefixLen result lines.now }
+// So many items, as far as the slice goes.
+pub fn front<T>(items: &[T], count: usize) -> &[T]
+    ensures { length result.now ≤ length items.now }
 {
-    if lines.len() / LINE_WIDTH < count {
-        return lines.len();
-    }
-    count * LINE_WIDTH
+    &items[..items.len().min(count)]
 }
 
-// The same of packed words.
-fn packed_words(count: usize, words: &[u16]) -> usize
-    ensures { IsPrefixLen result words.now }
-{
-    if words.len() < count {
-        return words.len();
-    }
-    count
+// How many records of a list are ordinary: their ids are below the first repeat id.
+fn ordinary(records: &[[u32; RECORD_WIDTH]], first_repeat: u32) -> usize {
+    records
+        .iter()
+        .filter(|record| record[0] < first_repeat)
+        .count()
 }
 
-// How many ordinary records a record of this id is: 1 where the id is below the first repeat id, else 0.
-fn one_if_ordinary(id: u32, first_repeat: u32) -> usize
-    ensures { result ≤ 1 }
-{
-    if id < first_repeat {
-        return 1;
-    }
-    0
-}
-
-// How many records of a list are ordinary.
-fn ordinary(records: &[u32], first_repeat: u32) -> usize {
-    let count = records.len() / RECORD_WIDTH;
-    let mut found: usize = 0;
-    let mut i: usize = 0;
-    while i < count {
-        found += one_if_ordinary(records[i * RECORD_WIDTH], first_repeat);
-        i += 1;
-    }
-    found
-}
-
-// Lists a tree, and says how many of the ordinary records of its list are missing.
-fn show_list(
-    page: &mut [u8],
-    names: &[u8],
-    numbers: Numbers,
-    records: &[u32],
-    cells: &[u32],
-    words: &[u16],
-    work: &mut [u32],
-)
-    requires { 32768 ≡ length names.now }
-{
-    let mut lines = rooms::records();
-    let answer = listing::list(
-        numbers.types,
-        numbers.first_repeat,
-        numbers.start,
-        cells,
-        words,
-        work,
-        &mut lines,
-    );
-    match answer {
-        Listed::Lines(count) => {
-            let end = line_words(count, &lines);
-            tables::print_lines(page, names, &lines[..end]);
-            messages::print_missing(page, ordinary(records, numbers.first_repeat), count);
+impl Shown<'_> {
+    // Lists the tree, and says how many of the ordinary records of its list are missing.
+    fn print_list(&self, page: &mut Page, work: &mut [u32]) -> fmt::Result {
+        let Numbers {
+            types,
+            first_repeat,
+            start,
+            ..
+        } = self.numbers;
+        let (cells, words) = (self.cells, self.words);
+        let mut lines = rooms::words32::<LINES>();
+        match listing::list(types, first_repeat, start, cells, words, work, &mut lines) {
+            Ok(count) => {
+                let lines = front(&lines, count.saturating_mul(LINE_WIDTH));
+                tables::print_lines(page, &self.list.names, lines)?;
+                messages::print_missing(page, ordinary(self.list.records(), first_repeat), count)
+            }
+            Err(refusal) => messages::print_refused(page, refusal),
         }
-        Listed::Refused(number, _) => messages::print_refused(page, number),
     }
-}
 
-// How many records were accepted, and how large their tree is.
-fn print_sizes(page: &mut [u8], records: usize, cells: usize, words: usize) {
-    put_number(page, b"accepted: records ", records as u64);
-    put_number(page, b", cells ", cells as u64);
-    put_number(page, b", packed words ", words as u64);
-    put(page, b"\ntree: id range\n");
-}
-
-// The sizes and the outline of a tree.
-fn show_outline(
-    page: &mut [u8],
-    names: &[u8],
-    numbers: Numbers,
-    records: usize,
-    cells: &[u32],
-    words: &[u16],
-    work: &mut [u32],
-)
-    requires value { 32768 ≡ length names.now }
-    requires cells_in_bounds { length cells.now ≤ length work.old }
-    requires words_len_bound { length words.now ≤ 16384 }
-{
-    let mut ends = rooms::words();
-    print_sizes(page, records, cells.len() / CELL_WIDTH, words.len());
-    outline::print_tree(
-        page,
-        names,
-        numbers.first_repeat,
-        numbers.start,
-        cells,
-        words,
-        work,
-        &mut ends,
-    );
-}
-
-// The cells, where they are asked for.
-fn show_cells(page: &mut [u8], options: Options, cells: &[u32]) {
-    if options.cells {
-        tables::print_cells(page, cells);
+    // The sizes and the outline of the tree.
+    fn print_outline(&self, page: &mut Page, work: &mut [u32]) -> fmt::Result
+        requires cells_in_bounds { length self.now.cells.now ≤ length work.old }
+        requires words_len_bound { length self.now.words.now ≤ 16384 }
+    {
+        let records = self.list.records().len();
+        let (cells, words) = (self.cells.as_chunks::<CELL_WIDTH>().0, self.words);
+        writeln!(
+            page,
+            "accepted: records {records}, cells {}, packed words {}",
+            cells.len(),
+            words.len()
+        )?;
+        page.put(b"tree: id range\n");
+        let outline = Outline {
+            names: &self.list.names,
+            first_repeat: self.numbers.first_repeat,
+            cells,
+            words,
+        };
+        let mut ends = rooms::words16();
+        outline.print(page, self.numbers.start, work, &mut ends)
     }
-}
 
-// The packed words, where they are asked for.
-fn show_words(page: &mut [u8], options: Options, words: &[u16]) {
-    if options.words {
-        tables::print_words(page, words);
+    // Shows the tree, with its cells and words where they are asked for.
+    pub fn print(&self, page: &mut Page, work: &mut [u32]) -> fmt::Result
+        requires cells_in_bounds { length self.now.cells.now ≤ length work.old }
+        requires words_len_bound { length self.now.words.now ≤ 16384 }
+    {
+        self.print_outline(page, work)?;
+        if self.options.cells {
+            tables::print_cells(page, self.cells.as_chunks::<CELL_WIDTH>().0)?;
+        }
+        if self.options.words {
+            tables::print_words(page, self.words)?;
+        }
+        self.print_list(page, work)
     }
-}
-
-// Shows a tree, with its cells and words where they are asked for.
-fn show_tree(
-    page: &mut [u8],
-    names: &[u8],
-    numbers: Numbers,
-    options: Options,
-    records: &[u32],
-    cells: &[u32],
-    words: &[u16],
-    work: &mut [u32],
-)
-    requires value { 32768 ≡ length names.now }
-    requires cells_in_bounds { length cells.now ≤ length work.old }
-    requires words_len_bound { length words.now ≤ 16384 }
-{
-    show_outline(
-        page,
-        names,
-        numbers,
-        records.len() / RECORD_WIDTH,
-        cells,
-        words,
-        work,
-    );
-    show_cells(page, options, cells);
-    show_words(page, options, words);
-    show_list(page, names, numbers, records, cells, words, work);
-}
-
-// Shows the tree that is in the first cells and packed words, so many of each.
-pub fn show_front(
-    page: &mut [u8],
-    names: &[u8],
-    numbers: Numbers,
-    options: Options,
-    records: &[u32],
-    cells: &[u32],
-    count: usize,
-    words: &[u16],
-    packed: usize,
-    work: &mut [u32],
-)
-    requires value { 32768 ≡ length names.now }
-    requires cells_in_bounds { length cells.now ≤ length work.old }
-    requires words_len_bound { length words.now ≤ 16384 }
-{
-    let end = cell_words(count, cells);
-    let last = packed_words(packed, words);
-    show_tree(
-        page,
-        names,
-        numbers,
-        options,
-        records,
-        &cells[..end],
-        &words[..last],
-        work,
-    );
 }

@@ -1,7 +1,7 @@
 -- Accepted cells begin with the top, and its children are what is left to be read after it. Assumes nothing.
 use mathlib.Core.Path.{◌≡◌, sym, ap, ◌∙◌}
 use mathlib.Core.List.{List, [], append-nil}
-use mathlib.Core.Option.{none, some}
+use Rattle.std.specs.Prelude.{None, Some}
 use Prim.Native.Nat.{ℕ, suc, ◌+◌, ◌-◌, ◌*◌, ◌≤◌}
 use native.Mathlib.Omega.{arith}
 use native.Mathlib.Nat.{add-zero}
@@ -55,13 +55,13 @@ pub record Begun (T F S : ℕ) (cs ws : List ℕ) : Type 0 where
   pub lines_are : list_cells F S cs ws ≡ view F 0 (absolute S kids)
   pub size : length cs ≡ suc (nodes kids) * cell_width
 
-pub begun : (T F S : ℕ) (cs ws : List ℕ) → T ≤ 65536 → S ≤ 4294967295 → Short ws → bad_cell T S cs ws ≡ none → Begun T F S cs ws
+pub begun : (T F S : ℕ) (cs ws : List ℕ) → T ≤ 65536 → S ≤ 4294967295 → Short ws → bad_cell T S cs ws ≡ None → Begun T F S cs ws
 unfolding cells relative list_cells lines kids_of absolute materialise nodes view
 begun T F S cs ws types fits short ok =
     let k = accepted_kept T S ws short fits cs ok in
     let d = kept_decode T (4294967295 - S) cs ws k in
     let kids = relative 0 k.kids in
-    let t = tree (some k.top) 0 k.length kids nil in
+    let t = tree (Some k.top) 0 k.length kids nil in
     let e = k.cells_are in
     record {
       kids = kids;

@@ -1,15 +1,15 @@
 -- The call `list`, refusal by refusal and where it is accepted. Assumes nothing.
 use mathlib.Core.Path.{◌≡◌, refl, sym}
-use mathlib.Core.Bool.{false}
+use mathlib.Core.Bool.{true, false}
 use mathlib.Core.List.{List, [], ◌∷◌}
-use mathlib.Core.Option.{none, some}
+use Rattle.std.specs.Prelude.{None, Some}
 use Prim.Native.Nat.{ℕ, ◌+◌, ◌-◌, ◌*◌, ◌/◌, ◌≤◌, ◌<◌}
 use native.Mathlib.Omega.{arith}
 use lib.Dec.{ltb}
 use lib.ListN.{length, get_or}
 use mir.Val.{Fits}
 use mir.Syntax.{w16}
-use borrow.Author.Tests.{ltb-false}
+use borrow.Author.Tests.{ltb-true, ltb-false}
 use Rattle.rules.proofs.PartRead.{short_of}
 use Rattle.tree.specs.Cells.{cell_width}
 use Rattle.tree.specs.Well.{Short}
@@ -32,11 +32,11 @@ module _ (T F S : ℕ) (cs ws : List ℕ) (work : ℕ) (out : List ℕ) where
   many_types h = sym (list_refused T cs ws work out 1 0 F S (λ o. types_refused T S cs ws work o h))
 
   module _ (types : T ≤ 65536) where
-    pub little_work : work < 96 * items cs ws + 96 → Refuses T F S cs ws work out 11 0
-    little_work h = sym (list_refused T cs ws work out 11 0 F S (λ o. work_refused T S cs ws work o types h))
+    pub little_work : ltb work (96 * items cs ws + 96) ≡ true → Refuses T F S cs ws work out 11 0
+    little_work h = sym (list_refused T cs ws work out 11 0 F S (λ o. work_refused T S cs ws work o types (ltb-true work (96 * items cs ws + 96) h)))
 
-    pub bad_at : (c : ℕ) → 96 * items cs ws + 96 ≤ work → bad_cell T S cs ws ≡ some c → Refuses T F S cs ws work out 15 c
-    bad_at c lent h = sym (list_refused T cs ws work out 15 c F S (λ o. cell_refused T S cs ws work o types lent c h))
+    pub bad_at : 96 * items cs ws + 96 ≤ work → (c : ℕ) → bad_cell T S cs ws ≡ Some c → Refuses T F S cs ws work out 15 c
+    bad_at lent c h = sym (list_refused T cs ws work out 15 c F S (λ o. cell_refused T S cs ws work o types lent c h))
 
 -- None of 1, 11 and 15 applies.
 pub record Passed (T F S : ℕ) (cs ws : List ℕ) (work : ℕ) (out : List ℕ) : Type 0 where
@@ -44,17 +44,17 @@ pub record Passed (T F S : ℕ) (cs ws : List ℕ) (work : ℕ) (out : List ℕ)
   pub lent : 96 * items cs ws + 96 ≤ work
   pub fits : S ≤ 4294967295
   pub short : Short ws
-  pub ok : bad_cell T S cs ws ≡ none
+  pub ok : bad_cell T S cs ws ≡ None
 
 module _ {T F S : ℕ} {cs ws : List ℕ} {work : ℕ} {out : List ℕ} (p : Passed T F S cs ws work out) where
   abbrev begins : Begun T F S cs ws
   begins = begun T F S cs ws p.types p.fits p.short p.ok
 
-  pub whole_cells : length cs / cell_width * cell_width ≡ length cs
+  whole_cells : length cs / cell_width * cell_width ≡ length cs
   whole_cells = omega (arith, begins.size)
 
   -- the lines of the cells and those of the packed records are counted
-  module _ (count : ℕ) (counted : count ≡ lines_from F cs 1 (length cs / cell_width - 1) + listed_in F ws) where
+  module _ {count : ℕ} (counted : count ≡ lines_from F cs 1 (length cs / cell_width - 1) + listed_in F ws) where
     size_is : length (list_cells F S cs ws) ≡ count * 4
     size_is = omega (arith, line_count T F S cs ws begins (length cs / cell_width) whole_cells, counted)
 
@@ -69,9 +69,9 @@ module _ {T F S : ℕ} {cs ws : List ℕ} {work : ℕ} {out : List ℕ} (p : Pas
     little_room h = refuses (few_lines (length (list_cells F S cs ws)) (length out) (omega (arith, size_is)))
 
     module _ (few : count ≤ 4294967295) (room : count ≤ length out / 4) where
-      pub all_lent : (size : ℕ) → size ≡ work → Lent F S cs ws (length cs / cell_width) size (length out)
+      pub all_lent : {size : ℕ} → size ≡ work → Lent F S cs ws (length cs / cell_width) size (length out)
       unfolding items
-      all_lent size same = record {
+      all_lent {size} same = record {
         types = T;
         types_fit = p.types;
         fits = p.fits;
@@ -91,7 +91,7 @@ module _ {T F S : ℕ} {cs ws : List ℕ} {work : ℕ} {out : List ℕ} (p : Pas
 
 -- more lines than the slice has room for
 pub room_refused : (T F S : ℕ) (cs ws : List ℕ) (work : ℕ) (out : List ℕ) → T ≤ 65536 → ltb work (96 * items cs ws + 96) ≡ false → S < 4294967296
-    → ((j : ℕ) → Fits w16 (get_or ws j 0)) → bad_cell T S cs ws ≡ none → length out / 4 < lines_from F cs 1 (length cs / 7 - 1) + listed_in F ws
+    → ((j : ℕ) → Fits w16 (get_or ws j 0)) → bad_cell T S cs ws ≡ None → length out / 4 < lines_from F cs 1 (length cs / 7 - 1) + listed_in F ws
     → record { outcome = refused 14 0; outputs = out ∷ [] } ≡ list_call T F S cs ws work out
 room_refused T F S cs ws work out types enough fits words ok h =
     let passed : Passed T F S cs ws work out = record {
@@ -101,4 +101,5 @@ room_refused T F S cs ws work out types enough fits words ok h =
       short = short_of ws (λ j. omega (arith, words j));
       ok = ok;
     } in
-    little_room passed (lines_from F cs 1 (length cs / cell_width - 1) + listed_in F ws) refl h
+    let same : lines_from F cs 1 (length cs / cell_width - 1) + listed_in F ws ≡ lines_from F cs 1 (length cs / cell_width - 1) + listed_in F ws = refl in
+    little_room passed same h

@@ -2,7 +2,7 @@
 use mathlib.Core.Path.{◌≡◌, refl, sym, ap, ap₂, ◌∙◌}
 use mathlib.Core.Bool.{Bool, true, false, cond, true≢false}
 use mathlib.Core.List.{List, [], ◌∷◌, ◌++◌, append_assoc}
-use mathlib.Core.Option.{Option, none, some}
+use Rattle.std.specs.Prelude.{Option, None, Some}
 use Prim.Native.Nat.{ℕ, zero, suc, ◌+◌, ◌*◌, ◌/◌, ◌≤◌}
 use native.Mathlib.Omega.{arith}
 use native.Mathlib.Numerals.{add-one}
@@ -28,8 +28,8 @@ use Rattle.listing.proofs.Opens.{Open, PackedAt, AllGood, left_cells, left_packe
 pub own_is : (F : ℕ) (cs : List ℕ) (i q d : ℕ) (t : Option ℕ) (s l : ℕ) → cell_kind cs i ≡ kind t → cell_id cs i ≡ id_word t
     → cell_position cs i ≡ s → cell_length cs i ≡ l → own_line F cs i q d ≡ node_line F d t (q + s) (q + s + l)
 unfolding own_line is_listed node_line kind id_word line
-own_is F cs i q d none s l a b c e = rw a refl
-own_is F cs i q d (some x) s l a b c e = rw (a, b, c, e) (go (ltb x F))
+own_is F cs i q d None s l a b c e = rw a refl
+own_is F cs i q d (Some x) s l a b c e = rw (a, b, c, e) (go (ltb x F))
   where
     go : (y : Bool) → cond y (d ∷ x ∷ (q + s) ∷ (q + s + l) ∷ []) [] ≡ elim y [ true ↦ d ∷ x ∷ (q + s) ∷ (q + s + l) ∷ [] | false ↦ [] ]
     go true = refl
@@ -39,8 +39,8 @@ own_is F cs i q d (some x) s l a b c e = rw (a, b, c, e) (go (ltb x F))
 pub below_is : (F : ℕ) (cs : List ℕ) (i d : ℕ) (t : Option ℕ) → cell_kind cs i ≡ kind t → cell_id cs i ≡ id_word t
     → cond (is_listed F cs i) (d + 1) d ≡ node_below F d t
 unfolding is_listed node_below kind id_word depth_below
-below_is F cs i d none a b = rw a refl
-below_is F cs i d (some x) a b = rw (a, b) (go (ltb x F))
+below_is F cs i d None a b = rw a refl
+below_is F cs i d (Some x) a b = rw (a, b) (go (ltb x F))
   where
     go : (y : Bool) → cond y (d + 1) d ≡ elim y [ true ↦ suc d | false ↦ d ]
     go true = add-one d
@@ -49,8 +49,8 @@ below_is F cs i d (some x) a b = rw (a, b) (go (ltb x F))
 -- at most one deeper, and then it has a line
 pub below_small : (F d : ℕ) (t : Option ℕ) (s e : ℕ) → (node_below F d t ≤ d + 1) × (node_below F d t * 4 ≤ d * 4 + length (node_line F d t s e))
 unfolding node_below depth_below node_line line
-below_small F d none s e = (omega arith, omega arith)
-below_small F d (some x) s e = go (ltb x F)
+below_small F d None s e = (omega arith, omega arith)
+below_small F d (Some x) s e = go (ltb x F)
   where
     go : (y : Bool) → (elim y [ true ↦ suc d | false ↦ d ] ≤ d + 1) × (elim y [ true ↦ suc d | false ↦ d ] * 4 ≤ d * 4 + length {A = ℕ} (elim y [ true ↦ d ∷ x ∷ s ∷ e ∷ [] | false ↦ [] ]))
     go true = (omega arith, omega arith)
@@ -59,8 +59,8 @@ below_small F d (some x) s e = go (ltb x F)
 -- no tree is of kind 2
 pub other_kind : (cs : List ℕ) (i : ℕ) (t : Option ℕ) → cell_kind cs i ≡ kind t → eqb (cell_kind cs i) 2 ≡ false
 unfolding kind
-other_kind cs i none a = rw a
-other_kind cs i (some x) a = rw a
+other_kind cs i None a = rw a
+other_kind cs i (Some x) a = rw a
 
 module _ (F : ℕ) (cs ws : List ℕ) (i q d : ℕ) where
   pub lines_other : (cell_kind cs i ≡ 2 → ⊥) → cell_lines F cs ws i q d ≡ own_line F cs i q d

@@ -24,11 +24,11 @@ module _ (F : ℕ) (cs : List ℕ) (i n : ℕ) where
   unfolding lines_from
   lines_step l = let e : n - i ≡ suc (n - (i + 1)) = omega arith in rw e
 
-  pub count_hit : (count count' : ℕ) → i < n → is_listed F cs i ≡ true → count' ≡ count + 1 → count' + lines_from F cs (i + 1) (n - (i + 1)) ≡ count + lines_from F cs i (n - i)
-  count_hit count count' l h e = let s : lines_from F cs i (n - i) ≡ lines_from F cs (i + 1) (n - (i + 1)) + 1 = rw h at (lines_step l) in omega arith
+  pub count_hit : i < n → is_listed F cs i ≡ true → lines_from F cs i (n - i) ≡ lines_from F cs (i + 1) (n - (i + 1)) + 1
+  count_hit l h = rw h at (lines_step l)
 
-  pub count_miss : (count count' : ℕ) → i < n → is_listed F cs i ≡ false → count' ≡ count → count' + lines_from F cs (i + 1) (n - (i + 1)) ≡ count + lines_from F cs i (n - i)
-  count_miss count count' l h e = let s : lines_from F cs i (n - i) ≡ lines_from F cs (i + 1) (n - (i + 1)) = rw h at (lines_step l) in omega arith
+  pub count_miss : i < n → is_listed F cs i ≡ false → lines_from F cs i (n - i) ≡ lines_from F cs (i + 1) (n - (i + 1))
+  count_miss l h = rw h at (lines_step l)
 
   pub count_end : n ≤ i → lines_from F cs i (n - i) ≡ 0
   unfolding lines_from
@@ -75,7 +75,7 @@ pub record Pass (T F S : ℕ) (cs ws out₀ out held : List ℕ) (size m at i : 
   pub state : State T F cs ws held m at i rest
   pub sized : length held ≡ size
 
-module _ {F S : ℕ} (cs ws : List ℕ) {n size room : ℕ} (lent : Lent F S cs ws n size room) where
+module _ {F S : ℕ} {cs ws : List ℕ} {n size room : ℕ} (lent : Lent F S cs ws n size room) where
   abbrev begins : Begun lent.types F S cs ws
   begins = begun lent.types F S cs ws lent.types_fit lent.fits lent.short lent.accepted
 
@@ -85,8 +85,8 @@ module _ {F S : ℕ} (cs ws : List ℕ) {n size room : ℕ} (lent : Lent F S cs 
   pub first_fits : get_or cs 4 0 * 2 ≤ n * 2
   first_fits = omega (arith, first_room lent.types F S cs ws begins, lent.whole)
 
-  pub pass_first : (out held held' : List ℕ) → held' ≡ noted held (get_or cs 4 0) S 0 → length held ≡ size → get_or cs 4 0 ≤ 4294967295 → Pass lent.types F S cs ws out out held' size (n * 2) 0 1
-  pass_first out held held' h e k =
+  pub pass_first : {out : List ℕ} (held : List ℕ) {held' : List ℕ} → held' ≡ noted held (get_or cs 4 0) S 0 → length held ≡ size → get_or cs 4 0 ≤ 4294967295 → Pass lent.types F S cs ws out out held' size (n * 2) 0 1
+  pass_first {out} held {held'} h e k =
       rw h (record {
         rest = list_cells F S cs ws;
         written = fronted_none (list_cells F S cs ws) out;
@@ -110,7 +110,7 @@ links_length F cs held i q d =
     noted_length (noted held (cell_next cs i) q d) (child_of cs i) (q + cell_position cs i) (cond (is_listed F cs i) (d + 1) d)
     ∙ noted_length held (cell_next cs i) q d
 
-module _ {F S : ℕ} (cs ws : List ℕ) {n size : ℕ} (out₀ : List ℕ) {out held : List ℕ} {at i : ℕ} (lent : Lent F S cs ws n size (length out₀))
+module _ {F S : ℕ} {cs ws : List ℕ} {n size : ℕ} {out₀ out held : List ℕ} {at i : ℕ} (lent : Lent F S cs ws n size (length out₀))
     (p : Pass lent.types F S cs ws out₀ out held size (n * 2) at i) where
   abbrev T : ℕ
   T = lent.types

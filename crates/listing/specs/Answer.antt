@@ -1,9 +1,6 @@
--- Document 01's number, place and count for each answer of listing.
-use Rattle.std.specs.Prelude.{[], ◌∷◌}
-use Rattle.words.specs.Outcome.{Outcome, accepted, refused}
-use Rattle.listing.specs.declared.Listed.{Listed}
-use Rattle.listing.specs.declared.Listed.TheVariants.{Lines, Refused}
+-- The count of an accepted call.
+use Rattle.std.specs.Prelude.{ℕ, List, [], ◌∷◌}
 
-abbrev pub listed_outcome : Listed → Outcome
-listed_outcome (Lines n) = accepted (n ∷ [])
-listed_outcome (Refused number place) = refused number place
+-- "Counts: .. lines for listing"
+abbrev pub listed_counts : ℕ → List ℕ
+listed_counts n = n ∷ []

@@ -1,6 +1,6 @@
 -- What the passes over the cells do at one cell: for the contracts of private functions only.
 use Rattle.std.specs.Prelude.{◌≡◌, Bool, cond, ◌&&◌, List, [], ◌∷◌, ℕ, zero, suc, ◌+◌, ◌-◌, ◌*◌, ◌/◌, ◌≤◌, ◌<◌, ltb, eqb, length, set}
-use Rattle.std.proofs.Math.Option.{none}
+use Rattle.std.specs.Prelude.{None}
 use Rattle.words.specs.Words.{record_width}
 use Rattle.tree.specs.Cells.{cell_width, cell_kind, cell_id, cell_position, cell_length, cell_first, cell_count, cell_next, part_at}
 use Rattle.tree.specs.Calls.{list_cells}
@@ -76,7 +76,7 @@ pub record Lent (F S : ℕ) (cs ws : List ℕ) (n work room : ℕ) : Type 0 wher
   pub fits : S ≤ 4294967295
   pub short : Short ws
   pub whole : n * cell_width ≡ length cs
-  pub accepted : bad_cell types S cs ws ≡ none
+  pub accepted : bad_cell types S cs ws ≡ None
   pub work_fits : n * 2 + length ws / record_width ≤ work
   pub few : length (list_cells F S cs ws) ≤ 17179869180
   pub lines_fit : length (list_cells F S cs ws) ≤ room

@@ -3,7 +3,7 @@
 use mathlib.Core.Path.{◌≡◌, refl, sym, ap, subst, ◌∙◌}
 use mathlib.Core.Bool.{Bool, true, false, ◌||◌, not, true≢false}
 use mathlib.Core.List.{List, [], ◌∷◌}
-use mathlib.Core.Option.{Option, none, some}
+use Rattle.std.specs.Prelude.{Option, None, Some}
 use mathlib.Core.Logic.{◌⊎◌, inl, inr}
 use Prim.Native.Nat.{ℕ, zero, suc, ◌+◌, ◌-◌, ◌*◌, ◌/◌, ◌%◌, ◌≤◌, ◌<◌}
 use native.Mathlib.Decide.{ℕ_discrete}
@@ -89,19 +89,19 @@ module _ (T : ℕ) (ws : List ℕ) (n : ℕ) where
       let (b, r) = accepted_step T ws n c w d ds k₀ ks z h in
       all_fine (suc c) (words_end w k₀) (first_named c d k₀ (next_named d k₀ ds)) ks (omega arith) r j k rest e
 
-lowest_none : (T : ℕ) (cs ws : List ℕ) → bad_cell T 0 cs ws ≡ none → lowest_from T ws (length (cells_of cs)) 1 0 (top_named 0 ∷ []) (cells_of cs) ≡ 0
+lowest_none : (T : ℕ) (cs ws : List ℕ) → bad_cell T 0 cs ws ≡ None → lowest_from T ws (length (cells_of cs)) 1 0 (top_named 0 ∷ []) (cells_of cs) ≡ 0
 unfolding bad_cell
 lowest_none T cs ws h = outer (eqb (length cs) 0 || not (eqb (length cs % cell_width) 0)) _ h
   where
-    inner : (n : ℕ) → ◌≡◌ {A = Option ℕ} (elim n [ zero ↦ none | suc c ↦ some (suc c) ]) none → n ≡ 0
+    inner : (n : ℕ) → ◌≡◌ {A = Option ℕ} (elim n [ zero ↦ None | suc c ↦ Some (suc c) ]) None → n ≡ 0
     inner zero h = refl
     inner (suc c) h = let bad : ◌≡◌ {A = ℕ} 0 1 = cc in absurd (omega arith)
 
-    outer : (b : Bool) (n : ℕ) → ◌≡◌ {A = Option ℕ} (elim b [ true ↦ some 0 | false ↦ elim n [ zero ↦ none | suc c ↦ some (suc c) ] ]) none → n ≡ 0
+    outer : (b : Bool) (n : ℕ) → ◌≡◌ {A = Option ℕ} (elim b [ true ↦ Some 0 | false ↦ elim n [ zero ↦ None | suc c ↦ Some (suc c) ] ]) None → n ≡ 0
     outer true n h = let bad : ◌≡◌ {A = ℕ} 0 1 = cc in absurd (omega arith)
     outer false n h = inner n h
 
-module _ (T : ℕ) (cs ws : List ℕ) (ok : bad_cell T 0 cs ws ≡ none) where
+module _ (T : ℕ) (cs ws : List ℕ) (ok : bad_cell T 0 cs ws ≡ None) where
   fine_at : (i : ℕ) → i * cell_width + cell_width ≤ length cs → Fine T ws (length (cells_of cs)) (cell_at cs i)
   fine_at i l = all_fine T ws (length (cells_of cs)) 1 0 (top_named 0 ∷ []) (cells_of cs) (omega arith) (lowest_none T cs ws ok) i (cell_at cs i) (drop (suc i) (cells_of cs)) (cells_drop i cs l)
 

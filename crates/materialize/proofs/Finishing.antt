@@ -14,8 +14,7 @@ use Rattle.tree.specs.Trees.{Trees, nil, tree, part, ◌⊕◌, nodes, siblings}
 use Rattle.tree.specs.Cells.{kind, id_word, packed, cells, cell, unless_none, cell_tree, decode_from, leading, following, cell_width, id_place, position_place, length_place, first_place, count_place, next_place, cell_kind, cell_id, cell_position, cell_length, cell_first, cell_count, cell_next, part_at}
 use Rattle.tree.proofs.CellLaws.{decode_at, length_cells}
 use Rattle.tree.proofs.PackLaws.{nodes-⊕}
-use Rattle.materialize.specs.Steps.{leads, Out, Made, Behind, unpacked, weight, cells_before, ahead, At, PartFits, Wrote, Ready, Next}
-use Rattle.materialize.proofs.Unpacking.{behind_on}
+use Rattle.materialize.specs.Steps.{leads, Out, Made, Behind, unpacked, weight, cells_before, ahead, At, PartFits, Ready}
 use Rattle.materialize.proofs.Reading.{unpacked-⊕, leading_following, nodes_so_far}
 
 leads_unless : (ts : Trees) (c : ℕ) → leads ts c 0 ≡ unless_none ts (suc c)
@@ -81,9 +80,9 @@ pub record Writing (held₀ held out₀ out cs ws : List ℕ) (total i cell sp m
   pub at : At held out cs ws total i cell sp mp
   pub behind : Behind (total * cell_width) out₀ out
 
-pub writing_start : (held out cs ws : List ℕ) (total : ℕ) → Ready held out cs ws total → Writing held held out out cs ws total (length cs / cell_width) total 0 0
+pub writing_start : {held out cs ws : List ℕ} {total : ℕ} → Ready held out cs ws total → Writing held held out out cs ws total (length cs / cell_width) total 0 0
 unfolding decode_from unpacked nodes siblings
-writing_start held out cs ws total p =
+writing_start {held} {out} {cs} {ws} {total} p =
     let e : length cs / cell_width - length cs / cell_width ≡ 0 = omega arith in
     let z : ahead cs ws (length cs / cell_width) ≡ nil = ap (λ (k : ℕ). decode_from ws k (drop (length cs / cell_width * cell_width) cs)) e in
     record {
@@ -103,36 +102,10 @@ writing_start held out cs ws total p =
       behind = record { same = λ j h. refl };
     }
 
-pub writing_next : (held₀ held held₂ out₀ out out₂ cs ws : List ℕ) (total i cell sp mp cell₂ sp₂ mp₂ : ℕ) → Writing held₀ held out₀ out cs ws total i cell sp mp → 0 < i
-    → Wrote held held₂ out out₂ cs ws total (i - 1) cell sp mp cell₂ sp₂ mp₂ → length held₂ ≡ length held → length out₂ ≡ length out
-    → Writing held₀ held₂ out₀ out₂ cs ws total (i - 1) cell₂ sp₂ mp₂
-writing_next held₀ held held₂ out₀ out out₂ cs ws total i cell sp mp cell₂ sp₂ mp₂ v z u h o =
-    let e : i ≡ i - 1 + 1 = omega arith in
-    let a : At held out cs ws total (i - 1 + 1) cell sp mp = subst (λ (k : ℕ). At held out cs ws total k cell sp mp) e v.at in
-    record {
-      few = omega (arith, v.few);
-      held_size = h ∙ v.held_size;
-      out_size = o ∙ v.out_size;
-      at = u.at a;
-      behind = behind_on (total * cell_width) out₀ out out₂ v.behind (u.behind a);
-    }
-
-pub writing_at : (held₀ held out₀ out cs ws : List ℕ) (total i cell sp mp : ℕ) → Writing held₀ held out₀ out cs ws total i cell sp mp → 0 < i → Ready held₀ out₀ cs ws total
-    → Next held out cs ws total (i - 1) cell sp mp
-writing_at held₀ held out₀ out cs ws total i cell sp mp v z p =
-    let e : i ≡ i - 1 + 1 = omega arith in
-    let l : (i - 1) * cell_width + cell_width ≤ length cs = omega (arith, v.few) in
-    record {
-      at = subst (λ (k : ℕ). At held out cs ws total k cell sp mp) e v.at;
-      inside = l;
-      parts = p.parts (i - 1) l;
-      typed = p.typed (i - 1) l;
-    }
-
-pub writing_end : (held₀ held out₀ out cs ws : List ℕ) (total i cell sp mp : ℕ) → Writing held₀ held out₀ out cs ws total i cell sp mp → i ≤ 0
+pub writing_end : {held₀ held out₀ out cs ws : List ℕ} {total i cell sp mp : ℕ} → Writing held₀ held out₀ out cs ws total i cell sp mp → i ≤ 0
     → out ≡ front (cells 1 0 (unpacked (ahead cs ws 0))) out₀
 unfolding cells_before
-writing_end held₀ held out₀ out cs ws total i cell sp mp v l =
+writing_end {held₀} {held} {out₀} {out} {cs} {ws} {total} {i} {cell} {sp} {mp} v l =
     let z : i ≡ 0 = omega arith in
     let a : At held out cs ws total 0 cell sp mp = subst (λ (k : ℕ). At held out cs ws total k cell sp mp) z v.at in
     let ts = unpacked (ahead cs ws 0) in
@@ -144,7 +117,7 @@ writing_end held₀ held out₀ out cs ws total i cell sp mp v l =
     ∙ ap (λ (k : ℕ). drop k out₀) (sym len))
 
 -- how many cells come of all
-pub before_mono : (cs : List ℕ) (i n : ℕ) → i ≤ n → cells_before cs i ≤ cells_before cs n
+before_mono : (cs : List ℕ) (i n : ℕ) → i ≤ n → cells_before cs i ≤ cells_before cs n
 unfolding cells_before
 before_mono cs i zero h = let e : i ≡ 0 = omega arith in rw e (omega arith)
 before_mono cs i (suc n) h = go (before_mono cs i n) (ℕ_discrete i (suc n))
@@ -156,6 +129,10 @@ before_mono cs i (suc n) h = go (before_mono cs i n) (ℕ_discrete i (suc n))
 pub before_more : (cs : List ℕ) (i : ℕ) → cells_before cs (i + 1) ≡ cells_before cs i + weight (cell_kind cs i) (cell_count cs i)
 unfolding cells_before
 before_more cs i = rw (add-one i)
+
+-- one more cell counts to all
+pub before_all : (cs : List ℕ) (i n : ℕ) → i < n → cells_before cs i + weight (cell_kind cs i) (cell_count cs i) ≤ cells_before cs n
+before_all cs i n l = omega (arith, before_more cs i, before_mono cs (i + 1) n (omega arith))
 
 module _ (cs ws : List ℕ) (parts : (i : ℕ) → i * cell_width + cell_width ≤ length cs → cell_kind cs i ≡ 2 → PartFits cs ws i) where
   one_cell : (i : ℕ) → i < length cs / cell_width → nodes (unpacked (ahead cs ws i)) ≡ weight (cell_kind cs i) (cell_count cs i) + nodes (unpacked (ahead cs ws (i + 1)))

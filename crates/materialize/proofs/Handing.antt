@@ -2,7 +2,7 @@
 -- Assumes nothing.
 use mathlib.Core.Path.{◌≡◌, refl, sym, ap, subst, ◌∙◌}
 use mathlib.Core.List.{List}
-use mathlib.Core.Option.{Option}
+use Rattle.std.specs.Prelude.{Option}
 use mathlib.Core.Logic.{◌⊎◌, inl, inr}
 use Prim.Native.Nat.{ℕ, zero, suc, ◌+◌, ◌-◌, ◌*◌, ◌≤◌, ◌<◌}
 use native.Mathlib.Omega.{arith}
@@ -231,14 +231,14 @@ pub record Going (held out₀ out : List ℕ) (low sp limit q left : ℕ) : Type
   pub at : (p : Open held out₀ low sp limit) → Moving held out limit q left p.total p.cell p.trees p.rest p.count
   pub behind : (p : Open held out₀ low sp limit) → Behind (p.total * cell_width) out₀ out
 
-pub going_start : (held out : List ℕ) (low sp limit q : ℕ) → Going held out out low sp limit q sp
-going_start held out low sp limit q = record {
+pub going_start : {held out : List ℕ} {low sp limit q : ℕ} → Going held out out low sp limit q sp
+going_start {held} {out} {low} {sp} {limit} {q} = record {
   size = refl;
   at = moving_start held out low sp limit q;
   behind = λ p. record { same = λ j h. refl };
 }
 
-module _ (held out₀ out : List ℕ) (low sp limit q left : ℕ) (g : Going held out₀ out low sp limit q left) where
+module _ {held out₀ out : List ℕ} {low sp limit q left : ℕ} (g : Going held out₀ out low sp limit q left) where
   next_of : (p : Open held out₀ low sp limit) → low < left
       → Next held out limit q left p.total p.cell p.trees p.rest p.count (g.at p).over (get_or held (left - 1) 0)
   next_of p l =
@@ -248,23 +248,28 @@ module _ (held out₀ out : List ℕ) (low sp limit q left : ℕ) (g : Going hel
   pub going_reads : Open held out₀ low sp limit → low < left → left - 1 < length held
   going_reads p l = omega (arith, moving_few held out limit q left p.total p.cell p.trees p.rest p.count (g.at p), p.room.deep)
 
-  pub going_fits : Open held out₀ low sp limit → low < left → (r : ℕ) → r ≡ get_or held (left - 1) 0 → r * cell_width + position_place < length out
-  going_fits p l r e = omega (arith, e, (next_of p l).inside, g.size, p.room.wide)
+  pub going_fits : Open held out₀ low sp limit → low < left → get_or held (left - 1) 0 * cell_width + position_place < length out
+  going_fits p l = omega (arith, (next_of p l).inside, g.size, p.room.wide)
 
-  pub going_next : low < left → (r x : ℕ) → r ≡ get_or held (left - 1) 0 → r < limit → x ≡ cell_position out r - q
-      → Going held out₀ (set out (r * cell_width + position_place) x) low sp limit q (left - 1)
-  going_next l r x e m f = record {
-    size = length-set out (r * cell_width + position_place) x ∙ g.size;
-    at = λ p. rw (f, e) ((next_of p l).moved (rw e at m));
-    behind = λ p. record { same = λ j h. rw (f, e) ((next_of p l).behind j h) ∙ (g.behind p).same j h };
+  pub going_next : low < left → get_or held (left - 1) 0 < limit → {x : ℕ} → x ≡ cell_position out (get_or held (left - 1) 0) - q
+      → Going held out₀ (set out (get_or held (left - 1) 0 * cell_width + position_place) x) low sp limit q (left - 1)
+  going_next l m {x} f = record {
+    size = length-set out (get_or held (left - 1) 0 * cell_width + position_place) x ∙ g.size;
+    at = λ p. rw f ((next_of p l).moved m);
+    behind = λ p. record { same = λ j h. rw f ((next_of p l).behind j h) ∙ (g.behind p).same j h };
   }
 
-  pub going_limit : low < left → (r : ℕ) → r ≡ get_or held (left - 1) 0 → limit ≤ r → Moved held out₀ out low sp limit q left
-  going_limit l r e m =
-      let ended : (p : Open held out₀ low sp limit) → (Made held out p.total p.cell (relative q (within p.trees p.count) ⊕ so_far (beyond p.trees p.count) p.rest)) × (siblings (so_far (beyond p.trees p.count) p.rest) ≡ left) = λ p. moving_end held out limit q left p.total p.cell p.trees p.rest p.count (g.at p) (inl ((next_of p l).at_limit (rw e at m))) in
+  moved_by : ((p : Open held out₀ low sp limit) → ((g.at p).over ≡ 0) ⊎ (left ≤ siblings p.rest)) → Moved held out₀ out low sp limit q left
+  moved_by e =
+      let ended : (p : Open held out₀ low sp limit) → (Made held out p.total p.cell (relative q (within p.trees p.count) ⊕ so_far (beyond p.trees p.count) p.rest)) × (siblings (so_far (beyond p.trees p.count) p.rest) ≡ left) = λ p. moving_end held out limit q left p.total p.cell p.trees p.rest p.count (g.at p) (e p) in
       record { made = λ p. (ended p).0; left = λ p. (ended p).1; behind = g.behind }
 
-  pub going_none : left ≤ low → Moved held out₀ out low sp limit q left
-  going_none m =
-      let ended : (p : Open held out₀ low sp limit) → (Made held out p.total p.cell (relative q (within p.trees p.count) ⊕ so_far (beyond p.trees p.count) p.rest)) × (siblings (so_far (beyond p.trees p.count) p.rest) ≡ left) = λ p. moving_end held out limit q left p.total p.cell p.trees p.rest p.count (g.at p) (inr (omega (arith, p.left))) in
-      record { made = λ p. (ended p).0; left = λ p. (ended p).1; behind = g.behind }
+  pub going_limit : low < left → limit ≤ get_or held (left - 1) 0 → Moved held out₀ out low sp limit q (left - 1 + 1)
+  going_limit l m = let e : left ≡ left - 1 + 1 = omega arith in subst (Moved held out₀ out low sp limit q) e (moved_by (λ p. inl ((next_of p l).at_limit m)))
+
+  -- none but those at the bottom are left
+  pub going_none : Open held out₀ low sp limit → left ≤ low → Moved held out₀ out low sp limit q low
+  going_none p m =
+      let v = g.at p in
+      let e : left ≡ low = omega (arith, v.here, siblings_so_far v.ahead p.rest, p.left) in
+      subst (Moved held out₀ out low sp limit q) e (moved_by (λ o. inr (omega (arith, o.left))))

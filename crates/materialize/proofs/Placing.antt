@@ -3,12 +3,11 @@
 use mathlib.Core.Path.{◌≡◌, refl, sym, ap, subst, ◌∙◌}
 use mathlib.Core.Bool.{true, false, cond}
 use mathlib.Core.List.{List}
-use mathlib.Core.Option.{Option, none, some}
+use Rattle.std.specs.Prelude.{Option, None, Some}
 use mathlib.Core.Logic.{◌⊎◌, inl, inr}
 use Prim.Native.Nat.{ℕ, suc, ◌+◌, ◌-◌, ◌*◌, ◌/◌, ◌≤◌, ◌<◌}
 use native.Mathlib.Decide.{dec_le}
 use native.Mathlib.Omega.{arith}
-use native.Mathlib.Numerals.{add-one}
 use borrow.Author.Tests.{le-ltb, lt-ltb, ne_eqb}
 use lib.Dec.{eqb, ltb}
 use lib.ListN.{length, get_or, set, drop, length-set, length-drop}
@@ -16,20 +15,17 @@ use lib.Seq.{get_or-set_same, get_or-set_other, length-take-le}
 use Rattle.tree.specs.Trees.{Trees, tree, part, ◌⊕◌, siblings}
 use Rattle.tree.specs.Cells.{kind, id_word, leading, following, cell_tree, cell_width, cell_kind, cell_id, cell_position, cell_length, cell_first, cell_count, part_at}
 use Rattle.tree.proofs.CellLaws.{decode_at}
-use Rattle.materialize.specs.Steps.{Made, Taken, Put, Packed, Unpacked, unpacked, weight, cells_before, ahead, At, PartFits, trees_left, Typed, NextCell, NextPart, Wrote}
+use Rattle.materialize.specs.Steps.{Made, Taken, Put, Packed, Unpacked, unpacked, weight, cells_before, ahead, At, PartFits, trees_left, NextCell, NextPart, Wrote}
 use Rattle.materialize.proofs.Written.{siblings-⊕, siblings_nodes}
 use Rattle.materialize.proofs.Unpacking.{same_room}
+use Rattle.materialize.proofs.Finishing.{before_more}
 use Rattle.materialize.proofs.Reading.{unpacked-⊕, leading_following, siblings_following, following_all, marks_following, marks_frame, mark_at, made_frame}
 
-before_next : (cs : List ℕ) (i : ℕ) → cells_before cs (i + 1) ≡ cells_before cs i + weight (cell_kind cs i) (cell_count cs i)
-unfolding cells_before
-before_next cs i = rw (add-one i)
-
 -- the type that a cell's kind and id stand for
-kind_of : (k i : ℕ) → (k ≡ 1) ⊎ ((k ≡ 3) × (i ≡ 0)) → (k ≡ kind (elim (eqb k 3) [ true ↦ none | false ↦ some i ])) × (i ≡ id_word (elim (eqb k 3) [ true ↦ none | false ↦ some i ]))
+kind_of : (k i : ℕ) → (k ≡ 1) ⊎ ((k ≡ 3) × (i ≡ 0)) → (k ≡ kind (elim (eqb k 3) [ true ↦ None | false ↦ Some i ])) × (i ≡ id_word (elim (eqb k 3) [ true ↦ None | false ↦ Some i ]))
 unfolding kind id_word
-kind_of k i (inl x) = subst (λ (y : ℕ). (y ≡ kind (elim (eqb y 3) [ true ↦ none | false ↦ some i ])) × (i ≡ id_word (elim (eqb y 3) [ true ↦ none | false ↦ some i ]))) (sym x) (refl, refl)
-kind_of k i (inr (x, z)) = subst (λ (y : ℕ). (y ≡ kind (elim (eqb y 3) [ true ↦ none | false ↦ some i ])) × (i ≡ id_word (elim (eqb y 3) [ true ↦ none | false ↦ some i ]))) (sym x) (refl, z)
+kind_of k i (inl x) = subst (λ (y : ℕ). (y ≡ kind (elim (eqb y 3) [ true ↦ None | false ↦ Some i ])) × (i ≡ id_word (elim (eqb y 3) [ true ↦ None | false ↦ Some i ]))) (sym x) (refl, refl)
+kind_of k i (inr (x, z)) = subst (λ (y : ℕ). (y ≡ kind (elim (eqb y 3) [ true ↦ None | false ↦ Some i ])) × (i ≡ id_word (elim (eqb y 3) [ true ↦ None | false ↦ Some i ]))) (sym x) (refl, z)
 
 module _ (held out cs ws : List ℕ) (total i cell sp mp : ℕ) (a : At held out cs ws total (i + 1) cell sp mp) (inside : i * cell_width + cell_width ≤ length cs) where
   abbrev ds : Trees
@@ -47,7 +43,7 @@ module _ (held out cs ws : List ℕ) (total i cell sp mp : ℕ) (a : At held out
   -- a tree
   module _ (other : cell_kind cs i ≡ 2 → ⊥) where
     abbrev t : Option ℕ
-    t = elim (eqb (cell_kind cs i) 3) [ true ↦ none | false ↦ some (cell_id cs i) ]
+    t = elim (eqb (cell_kind cs i) 3) [ true ↦ None | false ↦ Some (cell_id cs i) ]
 
     abbrev left : ℕ
     left = mp - n
@@ -64,7 +60,7 @@ module _ (held out cs ws : List ℕ) (total i cell sp mp : ℕ) (a : At held out
 
     pub one_more : cell ≡ cells_before cs i + 1
     unfolding weight
-    one_more = a.before ∙ before_next cs i ∙ ap (λ (x : ℕ). cells_before cs i + x) (rw (ne_eqb (cell_kind cs i) 2 other))
+    one_more = a.before ∙ before_more cs i ∙ ap (λ (x : ℕ). cells_before cs i + x) (rw (ne_eqb (cell_kind cs i) 2 other))
 
     pub kept_is : siblings (unpacked (following ds n)) ≡ kept
     unfolding trees_left
@@ -143,7 +139,7 @@ module _ (held out cs ws : List ℕ) (total i cell sp mp : ℕ) (a : At held out
 
     pub more : cell ≡ cells_before cs i + n / 4
     unfolding weight
-    more = a.before ∙ before_next cs i ∙ ap (λ (x : ℕ). cells_before cs i + x) (rw is)
+    more = a.before ∙ before_more cs i ∙ ap (λ (x : ℕ). cells_before cs i + x) (rw is)
 
     abbrev pub part_packed : Packed held out first pos sp ps
     part_packed =
@@ -183,44 +179,41 @@ module _ (held out cs ws : List ℕ) (total i cell sp mp : ℕ) (a : At held out
       }
 
 -- the same for numbers that the code has found
-module _ (held out cs : List ℕ) (total i cell sp mp left kept : ℕ) (left_is : left ≡ mp - cell_count cs i) (kept_is : kept ≡ trees_left held total sp mp left) where
-  pub tree_ready : NextCell held out cs total i cell sp mp → Taken held out (cell - 1) kept sp
-  tree_ready p = rw (kept_is, left_is) (tree_taken held out cs p.ws total i cell sp mp p.at p.inside p.other)
+module _ {held out cs : List ℕ} {total i cell sp mp : ℕ} (p : NextCell held out cs total i cell sp mp) {left kept : ℕ} (left_is : left ≡ mp - cell_count cs i) (kept_is : kept ≡ trees_left held total sp mp left) where
+  pub tree_ready : Taken held out (cell - 1) kept sp
+  tree_ready = rw (kept_is, left_is) (tree_taken held out cs p.ws total i cell sp mp p.at p.inside p.other)
 
-  pub tree_few : NextCell held out cs total i cell sp mp → (kept < 4294967295) × (1 ≤ cell)
-  tree_few p =
+  pub tree_few : (kept < 4294967295) × (1 ≤ cell)
+  tree_few =
       rw (kept_is, left_is) (
         omega (arith, kept_few held out cs p.ws total i cell sp mp p.at p.inside p.other, p.at.room.few),
         omega (arith, one_more held out cs p.ws total i cell sp mp p.at p.inside p.other),
       )
 
-  pub tree_wrote : (held₂ out₂ ws : List ℕ) → i * cell_width + cell_width ≤ length cs → (cell_kind cs i ≡ 2 → ⊥) → Typed cs i
-      → Put held held₂ out out₂ (cell - 1) kept sp (cell_kind cs i) (cell_id cs i) (cell_position cs i) (cell_length cs i)
+  pub tree_wrote : {held₂ out₂ : List ℕ} → Put held held₂ out out₂ (cell - 1) kept sp (cell_kind cs i) (cell_id cs i) (cell_position cs i) (cell_length cs i)
       → length held₂ ≡ length held → length out₂ ≡ length out
-      → Wrote held (set held₂ (total + left) kept) out out₂ cs ws total i cell sp mp (cell - 1) (kept + 1) (left + 1)
-  tree_wrote held₂ out₂ ws inside other typed p h o =
-      let q = rw (kept_is, left_is) at p in
+      → (ws : List ℕ) → Wrote held (set held₂ (total + left) kept) out out₂ cs ws total i cell sp mp (cell - 1) (kept + 1) (left + 1)
+  tree_wrote {held₂} {out₂} u h o ws =
+      let q = rw (kept_is, left_is) at u in
       rw (kept_is, left_is) (record {
-        at = λ a. tree_placed held out cs ws total i cell sp mp a inside other held₂ out₂ q h o typed;
-        behind = λ a. q.out_behind (tree_taken held out cs ws total i cell sp mp a inside other);
+        at = λ a. tree_placed held out cs ws total i cell sp mp a p.inside p.other held₂ out₂ q h o p.typed;
+        behind = λ a. q.out_behind (tree_taken held out cs ws total i cell sp mp a p.inside p.other);
       })
 
-module _ (held out cs ws : List ℕ) (total i cell sp mp : ℕ) (ps : List ℕ) (first : ℕ) (part_is : ps ≡ part_at cs ws i) (first_is : first ≡ cell - cell_count cs i / 4) where
-  pub part_ready : NextPart held out cs ws total i cell sp mp → Packed held out first (cell_position cs i) sp ps
-  part_ready p = rw first_is (part_packed held out cs ws total i cell sp mp p.at p.inside p.is p.fits ps part_is)
+module _ {held out cs ws : List ℕ} {total i cell sp mp : ℕ} (p : NextPart held out cs ws total i cell sp mp) {ps : List ℕ} (part_is : ps ≡ part_at cs ws i) where
+  pub part_ready : Packed held out (cell - cell_count cs i / 4) (cell_position cs i) sp ps
+  part_ready = part_packed held out cs ws total i cell sp mp p.at p.inside p.is p.fits ps part_is
 
-  pub part_few : NextPart held out cs ws total i cell sp mp → (sp ≤ 4294967295) × (cell_count cs i / 4 ≤ cell)
-  part_few p = (
+  pub part_few : (sp ≤ 4294967295) × (cell_count cs i / 4 ≤ cell)
+  part_few = (
     omega (arith, sp_few held out cs ws total i cell sp mp p.at p.inside p.is p.fits ps part_is, p.at.room.few),
     omega (arith, more held out cs ws total i cell sp mp p.at p.inside p.is p.fits ps part_is),
   )
 
-  pub part_wrote : (held₂ out₂ : List ℕ) (r : ℕ) → i * cell_width + cell_width ≤ length cs → cell_kind cs i ≡ 2 → PartFits cs ws i
-      → Unpacked held held₂ out out₂ first (cell_position cs i) sp ps r → length held₂ ≡ length held → length out₂ ≡ length out
-      → Wrote held (set held₂ (total + mp) sp) out out₂ cs ws total i cell sp mp first r (mp + 1)
-  part_wrote held₂ out₂ r inside is fits u h o =
-      let v = rw first_is at u in
-      rw first_is (record {
-        at = λ a. part_placed held out cs ws total i cell sp mp a inside is fits ps part_is held₂ out₂ r v h o;
-        behind = λ a. v.out_behind (part_packed held out cs ws total i cell sp mp a inside is fits ps part_is);
-      })
+  pub part_wrote : {held₂ out₂ : List ℕ} {r : ℕ} → Unpacked held held₂ out out₂ (cell - cell_count cs i / 4) (cell_position cs i) sp ps r
+      → length held₂ ≡ length held → length out₂ ≡ length out
+      → Wrote held (set held₂ (total + mp) sp) out out₂ cs ws total i cell sp mp (cell - cell_count cs i / 4) r (mp + 1)
+  part_wrote {held₂} {out₂} {r} u h o = record {
+    at = λ a. part_placed held out cs ws total i cell sp mp a p.inside p.is p.fits ps part_is held₂ out₂ r u h o;
+    behind = λ a. u.out_behind (part_packed held out cs ws total i cell sp mp a p.inside p.is p.fits ps part_is);
+  }

@@ -2,7 +2,7 @@
 use mathlib.Core.Path.{◌≡◌, refl, sym, ap, subst, ◌∙◌}
 use mathlib.Core.List.{List, [], ◌∷◌}
 use mathlib.Core.Bool.{Bool, true, false, cond}
-use mathlib.Core.Option.{Option}
+use Rattle.std.specs.Prelude.{Option}
 use Prim.Native.Nat.{ℕ, suc, ◌+◌, ◌-◌, ◌*◌, ◌≤◌, ◌<◌}
 use native.Mathlib.Decide.{dec_le}
 use native.Mathlib.Omega.{arith}
@@ -165,8 +165,8 @@ module _ (w o : List ℕ) (n c : ℕ) (ks bs : Trees) (m : Made w o n (suc c) (k
       ∙ ended_behind j h
 
 -- there is room for a tree that can be written
-pub taken_fits : (w o : List ℕ) (c kept sp : ℕ) → Taken w o c kept sp → Fit w o c kept sp
-taken_fits w o c kept sp p =
+pub taken_fits : {w o : List ℕ} {c kept sp : ℕ} → Taken w o c kept sp → Fit w o c kept sp
+taken_fits {w} {o} {c} {kept} {sp} p =
     let n = p.total in
     let ks = p.kids in
     let rs = p.rest in

@@ -1,7 +1,7 @@
 -- A part's records become trees from the last one back: each takes the trees of the records that stand in it. Assumes nothing.
 use mathlib.Core.Path.{◌≡◌, refl, sym, ap, subst, ◌∙◌}
 use mathlib.Core.List.{List, [], ◌∷◌}
-use mathlib.Core.Option.{some}
+use Rattle.std.specs.Prelude.{Some}
 use Prim.Native.Nat.{ℕ, zero, suc, ◌+◌, ◌-◌, ◌*◌, ◌/◌, ◌≤◌, ◌<◌}
 use native.Mathlib.Omega.{arith}
 use lib.ListN.{length, drop, length-drop}
@@ -11,14 +11,14 @@ use Rattle.tree.specs.Trees.{Trees, nil, tree, part, ◌⊕◌, nodes, siblings}
 use Rattle.tree.specs.Cells.{kind, id_word, relative, cell_width}
 use Rattle.tree.specs.Materialise.{within, beyond, unpack}
 use Rattle.tree.proofs.PackLaws.{nodes-⊕}
-use Rattle.materialize.specs.Steps.{Made, Room, Behind, so_far, Open, Moved, Taken, Put, inner_count, Packed, Unpacked}
+use Rattle.materialize.specs.Steps.{Made, Room, Behind, so_far, Open, Moved, Taken, Put, inner_count, Packed}
 use Rattle.materialize.proofs.Written.{siblings-⊕, siblings_nodes}
 use Rattle.materialize.proofs.Handing.{siblings_relative, siblings_so_far, so_far_tree}
 
 -- the record i - 1
 pub record_at : (p : ℕ) (ws : List ℕ) (i : ℕ) → 0 < i → i * 4 ≤ length ws
     → unpack p ((i - 1) * 4) (drop ((i - 1) * 4) ws)
-    ≡ tree (some (id_of ws (i - 1))) (p + start_of ws (i - 1)) (end_of ws (i - 1) - start_of ws (i - 1))
+    ≡ tree (Some (id_of ws (i - 1))) (p + start_of ws (i - 1)) (end_of ws (i - 1) - start_of ws (i - 1))
     (within (unpack p (i * 4) (drop (i * 4) ws)) (inner_count (last_of ws (i - 1)) ((i - 1) * 4)))
     (beyond (unpack p (i * 4) (drop (i * 4) ws)) (inner_count (last_of ws (i - 1)) ((i - 1) * 4)))
 unfolding unpack inner_count
@@ -64,9 +64,9 @@ pub record Unpacking (held₀ held out₀ out : List ℕ) (c p sp : ℕ) (ws : L
   pub held_behind : (g : Packed held₀ out₀ c p sp ws) → Behind g.total held₀ held
   pub out_behind : (g : Packed held₀ out₀ c p sp ws) → Behind (g.total * cell_width) out₀ out
 
-pub unpacking_start : (held out : List ℕ) (c p sp : ℕ) (ws : List ℕ) → Unpacking held held out out c p sp ws sp (length ws / 4)
+pub unpacking_start : {held out : List ℕ} {c p sp : ℕ} {ws : List ℕ} → Unpacking held held out out c p sp ws sp (length ws / 4)
 unfolding relative ◌⊕◌
-unpacking_start held out c p sp ws =
+unpacking_start {held} {out} {c} {p} {sp} {ws} =
     let i : ℕ = length ws / 4 in
     let e : unpack p (i * 4) (drop (i * 4) ws) ≡ nil = nothing_left p (i * 4) (drop (i * 4) ws) (omega (arith, length-drop (i * 4) ws)) in
     record {
@@ -79,18 +79,7 @@ unpacking_start held out c p sp ws =
       out_behind = λ g. record { same = λ j h. refl };
     }
 
-pub unpacking_end : (held₀ held out₀ out : List ℕ) (c p sp : ℕ) (ws : List ℕ) (left i : ℕ) → Unpacking held₀ held out₀ out c p sp ws left i → i ≤ 0 → Unpacked held₀ held out₀ out c p sp ws left
-unpacking_end held₀ held out₀ out c p sp ws left i v l =
-    let z : i ≡ 0 = omega arith in
-    let e : c + 0 ≡ c = omega arith in
-    record {
-      made = λ g. rw e at (rw z at (v.made g));
-      left = λ g. rw z at (v.all g);
-      held_behind = v.held_behind;
-      out_behind = v.out_behind;
-    }
-
-module _ (held₀ held out₀ out : List ℕ) (c p sp : ℕ) (ws : List ℕ) (left i : ℕ) (v : Unpacking held₀ held out₀ out c p sp ws left i) (z : 0 < i) where
+module _ {held₀ held out₀ out : List ℕ} {c p sp : ℕ} {ws : List ℕ} {left i : ℕ} (v : Unpacking held₀ held out₀ out c p sp ws left i) (z : 0 < i) where
   abbrev ts : Trees
   ts = unpack p (i * 4) (drop (i * 4) ws)
 
@@ -100,10 +89,10 @@ module _ (held₀ held out₀ out : List ℕ) (c p sp : ℕ) (ws : List ℕ) (le
   pub cell_few : Packed held₀ out₀ c p sp ws → c + (i - 1) + 1 ≤ 4294967295
   cell_few g = omega (arith, v.few, g.made.size, g.room.few)
 
-  pub reads : (i - 1) * 4 + 4 ≤ length ws
-  reads = omega (arith, v.few)
+  module _ {n : ℕ} (n_is : n ≡ k) where
+    abbrev limit : ℕ
+    limit = c + (i - 1) + 1 + n
 
-  module _ (limit : ℕ) (limit_is : limit ≡ c + (i - 1) + 1 + k) where
     abbrev pub opened : Packed held₀ out₀ c p sp ws → Open held out sp left limit
     opened g = record {
       total = g.total;
@@ -115,10 +104,10 @@ module _ (held₀ held out₀ out : List ℕ) (c p sp : ℕ) (ws : List ℕ) (le
       room = same_room held₀ held out₀ out g.total v.held_size v.out_size g.room;
       left = g.all;
       all = v.all g;
-      limit_is = omega (arith, limit_is);
+      limit_is = omega (arith, n_is);
     }
 
-    module _ (q kept : ℕ) (out₁ : List ℕ) (m : Moved held out out₁ sp left limit q kept) (long : length out₁ ≡ length out) where
+    module _ {q kept : ℕ} {out₁ : List ℕ} (m : Moved held out out₁ sp left limit q kept) (long : length out₁ ≡ length out) where
       abbrev pub taken : Packed held₀ out₀ c p sp ws → Taken held out₁ (c + (i - 1)) kept left
       taken g =
           let h : Made held out₁ g.total (c + i) (relative q (within ts k) ⊕ so_far (beyond ts k) g.rest) = m.made (opened g) in
@@ -139,12 +128,12 @@ module _ (held₀ held out₀ out : List ℕ) (c p sp : ℕ) (ws : List ℕ) (le
       kept_few g =
           omega (arith, m.left (opened g), siblings_nodes (so_far (beyond ts k) g.rest), (m.made (opened g)).size, nodes-⊕ (relative q (within ts k)) (so_far (beyond ts k) g.rest), g.room.few)
 
-      module _ (held₂ out₂ : List ℕ) (l d : ℕ) (e : Put held held₂ out₁ out₂ (c + (i - 1)) kept left 1 d q l)
+      module _ {held₂ out₂ : List ℕ} {l d : ℕ} (e : Put held held₂ out₁ out₂ (c + (i - 1)) kept left 1 d q l)
           (h : length held₂ ≡ length held) (o : length out₂ ≡ length out₁)
           (start_is : q ≡ p + start_of ws (i - 1)) (length_is : l ≡ end_of ws (i - 1) - start_of ws (i - 1)) (id_is : d ≡ id_of ws (i - 1)) where
         next_is : (g : Packed held₀ out₀ c p sp ws)
-            → tree (some (id_of ws (i - 1))) q l (relative q (within ts k)) (so_far (beyond ts k) g.rest) ≡ so_far (unpack p ((i - 1) * 4) (drop ((i - 1) * 4) ws)) g.rest
-        next_is g = rw (record_at p ws i z v.few, start_is, length_is) (sym (so_far_tree (some (id_of ws (i - 1))) (p + start_of ws (i - 1)) (end_of ws (i - 1) - start_of ws (i - 1)) (within ts k) (beyond ts k) g.rest))
+            → tree (Some (id_of ws (i - 1))) q l (relative q (within ts k)) (so_far (beyond ts k) g.rest) ≡ so_far (unpack p ((i - 1) * 4) (drop ((i - 1) * 4) ws)) g.rest
+        next_is g = rw (record_at p ws i z v.few, start_is, length_is) (sym (so_far_tree (Some (id_of ws (i - 1))) (p + start_of ws (i - 1)) (end_of ws (i - 1) - start_of ws (i - 1)) (within ts k) (beyond ts k) g.rest))
 
         pub unpacking_next : Unpacking held₀ held₂ out₀ out₂ c p sp ws (kept + 1) (i - 1)
         unfolding kind id_word siblings
@@ -152,7 +141,7 @@ module _ (held₀ held out₀ out : List ℕ) (c p sp : ℕ) (ws : List ℕ) (le
           few = omega (arith, v.few);
           held_size = h ∙ v.held_size;
           out_size = o ∙ long ∙ v.out_size;
-          made = λ g. rw (sym (next_is g)) (e.made (taken g) (some (id_of ws (i - 1))) refl id_is);
+          made = λ g. rw (sym (next_is g)) (e.made (taken g) (Some (id_of ws (i - 1))) refl id_is);
           all = λ g. rw (sym (next_is g)) (omega (arith, m.left (opened g)));
           held_behind = λ g. behind_on g.total held₀ held held₂ (v.held_behind g) (e.held_behind (taken g));
           out_behind = λ g. behind_on (g.total * cell_width) out₀ out₁ out₂ (behind_on (g.total * cell_width) out₀ out out₁ (v.out_behind g) (m.behind (opened g))) (e.out_behind (taken g));

@@ -1,7 +1,7 @@
 -- What the writer of materialised cells keeps: trees without parts, written as cells from the last one back, with the numbers of the
 -- siblings that have no parent yet in the work slice. Only internal functions cite these.
 use Rattle.std.specs.Prelude.{◌≡◌, List, ℕ, zero, suc, ◌+◌, ◌-◌, ◌*◌, ◌/◌, ◌≤◌, ◌<◌, cond, ◌⊎◌, ltb, eqb, length, get_or, set, drop}
-use Rattle.std.proofs.Math.Option.{Option}
+use Rattle.std.specs.Prelude.{Option}
 use Rattle.words.specs.Words.{start_of, record_width}
 use Rattle.tree.specs.Trees.{Trees, nil, tree, part, ◌⊕◌, nodes, siblings}
 use Rattle.tree.specs.Materialise.{within, beyond, unpack}

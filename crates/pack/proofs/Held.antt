@@ -1,22 +1,19 @@
--- What a caller knows of a run that is taken: its words stand in the store, and what is left behind it. Assumes nothing.
+-- What a caller knows of a run that is taken: its words stand in the store. Assumes nothing.
 use mathlib.Core.Path.{◌≡◌, sym, ap, ◌∙◌}
 use mathlib.Core.List.{List, [], ◌∷◌}
-use mathlib.Core.Option.{Option, some}
-use Prim.Native.Nat.{ℕ, zero, suc, ◌+◌, ◌-◌, ◌*◌, ◌≤◌, ◌<◌}
+use Rattle.std.specs.Prelude.{Option, Some}
+use Prim.Native.Nat.{ℕ, zero, suc, ◌+◌, ◌*◌, ◌≤◌, ◌<◌}
 use native.Mathlib.Omega.{arith}
 use native.Mathlib.Nat.{le_refl}
 use lib.ListN.{length, get_or}
-use Rattle.tree.specs.Items.{Items, span, records, first, leftmost}
-use Rattle.tree.specs.Pack.{words, pack, run_from}
-use Rattle.tree.proofs.Reading.{after}
-use Rattle.tree.proofs.ItemLaws.{from_leftmost, fits_after}
+use Rattle.tree.specs.Items.{Items, span, first, leftmost}
+use Rattle.tree.specs.Pack.{pack, run_from}
+use Rattle.tree.proofs.ItemLaws.{from_leftmost}
 use Rattle.tree.proofs.ShortLaws.{run_packs, short_pack, fits_under, under_up, under_first}
 use Rattle.tree.proofs.RecordCounts.{words_records}
-use Rattle.cursor.specs.Spells.{Stands}
-use Rattle.cursor.proofs.Spelled.{spells_count, stands_first, stands_after}
-use Rattle.scan.specs.Walked.{Remembered, Scans}
+use Rattle.cursor.proofs.Spelled.{spells_count}
+use Rattle.scan.specs.Walked.{Scans}
 use Rattle.scan.specs.declared.Memo.{Memo}
-use Rattle.scan.proofs.Memory.{remembered_after}
 use Rattle.store.specs.Store.{Staged, Same}
 use Rattle.words.proofs.Stores.{put_length, put_in}
 use Rattle.store.proofs.Frame.{same_put}
@@ -68,7 +65,7 @@ module _ (l l' : List ℕ) (low high : ℕ) (ws : List ℕ) (f : Filled l l' low
 
 -- a packed run has words of 16 bits
 pub run_short : (F b : ℕ) (own : Option ℕ) (T from to i s e : ℕ) (kids rest : Items) (k : ℕ) → T ≤ 65536 → b ≤ 65535
-    → Fits F T from to (span i s e kids rest) → run_from F b own i s e kids rest ≡ some k
+    → Fits F T from to (span i s e kids rest) → run_from F b own i s e kids rest ≡ Some k
     → Short (pack F (leftmost s (first k rest)) 0 (span i s e kids (first k rest)))
 unfolding leftmost first
 run_short F b own T from to i s e kids rest k t bound f q =
@@ -77,32 +74,3 @@ run_short F b own T from to i s e kids rest k t bound f q =
     (from_leftmost F T (suc k) s from to (span i s e kids rest) f)
     (f.known, le_refl e, fits_under F T s e kids f.inner, under_first T e k rest (under_up T s e rest f.ordered (fits_under F T from s rest f.rest)))
     (omega (arith, m.fits))
-
--- What is left behind the run of a span and k items more: the items after them, in order and nested, what was remembered of them,
--- and no fewer words of room than the run's records had.
-pub record Behind (F : ℕ) (own : Option ℕ) (w : List ℕ) (lo p T from i s e : ℕ) (kids rest : Items) (k limit : ℕ) (memo : Memo) (low : ℕ) : Type 0 where
-  pub reached : lo + records (span i s e kids (first k rest)) ≤ p
-  pub stands : Stands F own w lo (p - records (span i s e kids (first k rest))) (after k rest)
-  pub fits : Fits F T from (leftmost s (first k rest)) (after k rest)
-  pub remembered : Remembered (p - records (span i s e kids (first k rest))) (after k rest) limit memo
-  pub room : 4 * p ≤ low → 4 * (p - records (span i s e kids (first k rest))) ≤ low - words F (span i s e kids (first k rest))
-  pub used : words F (span i s e kids (first k rest)) ≤ 4 * records (span i s e kids (first k rest))
-
-pub behind_run : (F : ℕ) (own : Option ℕ) (w : List ℕ) (lo p T from to i s e : ℕ) (kids rest : Items) (k limit : ℕ) (memo : Memo) (low : ℕ)
-    → Stands F own w lo p (span i s e kids rest) → Fits F T from to (span i s e kids rest) → Remembered p (span i s e kids rest) limit memo
-    → Behind F own w lo p T from i s e kids rest k limit memo low
-unfolding first after
-behind_run F own w lo p T from to i s e kids rest k limit memo low st f m =
-    let its = span i s e kids rest in
-    let run = span i s e kids (first k rest) in
-    let left = stands_after F own w lo p (suc k) its st in
-    let all = spells_count w lo p its st.spells in
-    let front = spells_count w (p - records run) p run (stands_first F own w lo p (suc k) its st).spells in
-    record {
-      reached = omega (arith, front, spells_count w lo (p - records run) (after k rest) left.spells, all);
-      stands = left;
-      fits = fits_after F T k s from s rest (le_refl s) f.rest;
-      remembered = remembered_after p (suc k) its limit memo (omega (arith, all)) m;
-      room = λ h. omega (arith, words_records F run);
-      used = words_records F run;
-    }

@@ -1,7 +1,7 @@
 -- Taking a run: the scan's answer is a run that packs, and what is taken is the definition's. Assumes nothing.
-use mathlib.Core.Path.{◌≡◌, refl, ap, ◌∙◌}
+use mathlib.Core.Path.{◌≡◌, ap, ◌∙◌}
 use mathlib.Core.List.{List}
-use mathlib.Core.Option.{Option, none, some}
+use Rattle.std.specs.Prelude.{Option, None, Some, Ok}
 use Prim.Native.Nat.{ℕ, suc, ◌+◌, ◌-◌, ◌*◌, ◌/◌, ◌≤◌, ◌<◌}
 use native.Mathlib.Omega.{arith}
 use borrow.Author.Tests.{lt-leb}
@@ -17,24 +17,21 @@ use Rattle.scan.specs.Walked.{Scans, Remembered}
 use Rattle.scan.specs.Found.{measured, Found}
 use Rattle.scan.specs.declared.BufferScan.{BufferScan}
 use Rattle.scan.specs.declared.Memo.{Memo}
-use Rattle.scan.specs.declared.Scan.{Scan}
-use Rattle.scan.specs.declared.Scan.TheVariants.{Run, Nothing}
 use Rattle.scan.proofs.Memory.{remembered_lower}
-use Rattle.scan.proofs.Answered.{answered_run, answered_nothing}
-use Rattle.pack.specs.Taking.{Filled, Runs, Packable, Takable, Takes, memo_of}
-use Rattle.pack.specs.declared.Taken.TheVariants.{Packed, Unpacked}
+use Rattle.scan.proofs.Answered.{answered_run}
+use Rattle.pack.specs.Taking.{Filled, Runs, Packable, Takable, Takes}
 use Rattle.tree.specs.Ordered.{Fits}
 
 -- The run that a scan answered.
 pub record Measures (F b : ℕ) (own : Option ℕ) (i s e : ℕ) (kids rest : Items) (t : BufferScan) : Type 0 where
   pub k : ℕ
-  pub runs : run_from F b own i s e kids rest ≡ some k
+  pub runs : run_from F b own i s e kids rest ≡ Some k
   pub is : t ≡ measured F (leftmost s (first k rest)) (span i s e kids (first k rest))
 
-pub found_run : (F b : ℕ) (own : Option ℕ) (at limit i s e : ℕ) (kids rest : Items) (r : Scan) (t : BufferScan)
-    → Found F at limit i s e kids rest (run_from F b own i s e kids rest) r → r ≡ Run t → Measures F b own i s e kids rest t
-found_run F b own at limit i s e kids rest r t f q =
-    let a = answered_run F at limit i s e kids rest (run_from F b own i s e kids rest) t (rw q at f) in
+found_run : (F b : ℕ) (own : Option ℕ) (at limit i s e : ℕ) (kids rest : Items) (t : BufferScan)
+    → Found F at limit i s e kids rest (run_from F b own i s e kids rest) (Ok t) → Measures F b own i s e kids rest t
+found_run F b own at limit i s e kids rest t f =
+    let a = answered_run F at limit i s e kids rest (run_from F b own i s e kids rest) t f in
     record { k = a.0; runs = a.1; is = a.2 }
 
 -- a run of k items behind a span, as the scan has measured it
@@ -66,10 +63,10 @@ unfolding words
 words_run F k i s e kids rest = omega (arith, words_first F k rest)
 
 -- What is asked of the packing, where the scan answered a run.
-module _ (F b : ℕ) (own : Option ℕ) (w : List ℕ) (lo p : ℕ) (memo : Memo) (l : List ℕ) (low : ℕ) (r : Scan) (t : BufferScan) (h : Takable F own w lo p b memo l low)
-    (f : Found F p (h.e - b) h.i h.s h.e h.kids h.rest (run_from F b own h.i h.s h.e h.kids h.rest) r) (q : r ≡ Run t) where
+module _ {F b : ℕ} {own : Option ℕ} {w : List ℕ} {lo p : ℕ} {memo : Memo} {l : List ℕ} {low : ℕ} (h : Takable F own w lo p b memo l low) (t : BufferScan)
+    (f : Found F p (h.e - b) h.i h.s h.e h.kids h.rest (run_from F b own h.i h.s h.e h.kids h.rest) (Ok t)) where
   found_at : Measures F b own h.i h.s h.e h.kids h.rest t
-  found_at = found_run F b own p (h.e - b) h.i h.s h.e h.kids h.rest r t f q
+  found_at = found_run F b own p (h.e - b) h.i h.s h.e h.kids h.rest t f
 
   runs_at : Runs F own w p t (span h.i h.s h.e h.kids (first found_at.k h.rest))
   runs_at = run_runs F own w lo p h.T h.from h.to h.i h.s h.e h.kids h.rest found_at.k t found_at.is h.scans.stands h.fits
@@ -92,38 +89,23 @@ module _ (F b : ℕ) (own : Option ℕ) (w : List ℕ) (lo p : ℕ) (memo : Memo
   run_start = omega (arith, runs_at.from.0, runs_at.from.1, h.scans.stands.spells.end)
 
 -- A record longer than the bound has no run.
-long_none : (F b : ℕ) (own : Option ℕ) (i s e : ℕ) (kids rest : Items) → b < e - s → run_from F b own i s e kids rest ≡ none
+long_none : (F b : ℕ) (own : Option ℕ) (i s e : ℕ) (kids rest : Items) → b < e - s → run_from F b own i s e kids rest ≡ None
 unfolding run_from
 long_none F b own i s e kids rest h = rw (lt-leb _ _ h, run_from)
 
 -- Nor does it change what is remembered.
 pub long_leaves : (F b : ℕ) (own : Option ℕ) (i s e : ℕ) (kids rest : Items) → b < e - s
-    → (run_from F b own i s e kids rest ≡ none)
+    → (run_from F b own i s e kids rest ≡ None)
     × ((at limit : ℕ) (memo : Memo) → e - b ≤ limit → Remembered at (span i s e kids rest) limit memo → Remembered at (span i s e kids rest) (e - b) memo)
 long_leaves F b own i s e kids rest h =
     (long_none F b own i s e kids rest h, λ at limit memo f v. remembered_lower at (span i s e kids rest) limit (e - b) memo f v)
 
-module _ (F b : ℕ) (own : Option ℕ) (w : List ℕ) (lo p : ℕ) (memo : Memo) (l : List ℕ) (low i s e : ℕ) (kids rest : Items) (h : Scans F own w l lo p b memo i s e kids rest) where
-  pub takes_long : (start end : ℕ) → start ≡ get_or w ((p - 1) * 4 + 1) 0 → end ≡ get_or w ((p - 1) * 4 + 2) 0 → b < end - start
-      → Takes F b i s e kids rest p l low (run_from F b own i s e kids rest) (Unpacked memo) l
-  takes_long start end x y long =
-      let z : b < e - s = omega (arith, x, y, h.stands.spells.start, h.stands.spells.end) in
-      rw (long_none F b own i s e kids rest z) (memo, refl, remembered_lower p (span i s e kids rest) h.limit (e - b) memo h.falls h.remembered, refl)
-
-  -- the scan found nothing
-  pub takes_none : (r : Scan) (m n : Memo) → Found F p (e - b) i s e kids rest (run_from F b own i s e kids rest) r → r ≡ Nothing n → m ≡ memo_of r memo
-      → Takes F b i s e kids rest p l low (run_from F b own i s e kids rest) (Unpacked m) l
-  takes_none r m n f q is =
-      let a = answered_nothing F p (e - b) i s e kids rest (run_from F b own i s e kids rest) n (rw q at f) in
-      let z : m ≡ n = is ∙ ap (λ (x : Scan). memo_of x memo) q in
-      rw a.0 (n, ap Unpacked z, a.1, refl)
-
 ap_takes : (F b : ℕ) (own : Option ℕ) (w : List ℕ) (lo p : ℕ) (l l' : List ℕ) (low T from to i s e : ℕ) (kids rest : Items)
     → Stands F own w lo p (span i s e kids rest) → Fits F T from to (span i s e kids rest)
-    → (k : ℕ) (t : BufferScan) (at end : ℕ) (o : Option ℕ) → o ≡ some k
+    → (k : ℕ) (t : BufferScan) (at end : ℕ) (o : Option ℕ) → o ≡ Some k
     → t ≡ measured F (leftmost s (first k rest)) (span i s e kids (first k rest))
     → ((own : Option ℕ) (its : Items) → Runs F own w p t its → Filled l l' at low (pack F t.start 0 its)) → end ≡ get_or w ((p - 1) * 4 + 2) 0
-    → Takes F b i s e kids rest p l low o (Packed (record { p = p - t.size / 4; low = at; start = t.start; length = end - t.start })) l'
+    → Takes F b i s e kids rest p l low o (Ok (record { p = p - t.size / 4; low = at; start = t.start; length = end - t.start })) l'
 unfolding measured
 ap_takes F b own w lo p l l' low T from to i s e kids rest st f k t at end o runs is filled ends =
     let r = span i s e kids (first k rest) in
@@ -136,11 +118,11 @@ ap_takes F b own w lo p l l' low T from to i s e kids rest st f k t at end o run
     rw runs (rw (z, start, y, a), rw a at g)
 
 -- the run is packed
-pub takes_run : (F b : ℕ) (own : Option ℕ) (w : List ℕ) (lo p : ℕ) (memo : Memo) (l l' : List ℕ) (low T from to i s e : ℕ) (kids rest : Items)
-    → Scans F own w l lo p b memo i s e kids rest → Fits F T from to (span i s e kids rest)
-    → (r : Scan) (t : BufferScan) (at end : ℕ) → Found F p (e - b) i s e kids rest (run_from F b own i s e kids rest) r → r ≡ Run t
+pub takes_run : {F b : ℕ} {own : Option ℕ} {w : List ℕ} {lo p : ℕ} {memo : Memo} {l l' : List ℕ} {low i s e : ℕ} {kids rest : Items}
+    → Scans F own w l lo p b memo i s e kids rest → (T from to : ℕ) → Fits F T from to (span i s e kids rest)
+    → (t : BufferScan) (at end : ℕ) → Found F p (e - b) i s e kids rest (run_from F b own i s e kids rest) (Ok t)
     → ((own : Option ℕ) (its : Items) → Runs F own w p t its → Filled l l' at low (pack F t.start 0 its)) → end ≡ get_or w ((p - 1) * 4 + 2) 0
-    → Takes F b i s e kids rest p l low (run_from F b own i s e kids rest) (Packed (record { p = p - t.size / 4; low = at; start = t.start; length = end - t.start })) l'
-takes_run F b own w lo p memo l l' low T from to i s e kids rest h f r t at end found q filled ends =
-    let m = found_run F b own p (e - b) i s e kids rest r t found q in
+    → Takes F b i s e kids rest p l low (run_from F b own i s e kids rest) (Ok (record { p = p - t.size / 4; low = at; start = t.start; length = end - t.start })) l'
+takes_run {F = F} {b = b} {own = own} {w = w} {lo = lo} {p = p} {l = l} {l' = l'} {low = low} {i = i} {s = s} {e = e} {kids = kids} {rest = rest} h T from to f t at end found filled ends =
+    let m = found_run F b own p (e - b) i s e kids rest t found in
     ap_takes F b own w lo p l l' low T from to i s e kids rest h.stands f m.k t at end (run_from F b own i s e kids rest) m.runs m.is filled ends

@@ -1,6 +1,5 @@
 -- What packing a run and taking it ask and give. Only internal functions cite these.
-use Rattle.std.specs.Prelude.{◌≡◌, List, ℕ, ◌+◌, ◌-◌, ◌*◌, ◌/◌, ◌%◌, ◌≤◌, length}
-use Rattle.std.proofs.Math.Option.{Option, none, some}
+use Rattle.std.specs.Prelude.{◌≡◌, List, ℕ, ◌+◌, ◌-◌, ◌*◌, ◌/◌, ◌%◌, ◌≤◌, length, Option, None, Some, Result, Ok, Err}
 use Rattle.words.specs.Words.{put, record_width}
 use Rattle.tree.specs.Items.{Items, span, records, first, leftmost}
 use Rattle.tree.specs.Pack.{words, pack}
@@ -8,10 +7,7 @@ use Rattle.cursor.specs.Spells.{Stands}
 use Rattle.scan.specs.Walked.{Remembered, Scans}
 use Rattle.scan.specs.declared.BufferScan.{BufferScan}
 use Rattle.scan.specs.declared.Memo.{Memo}
-use Rattle.scan.specs.declared.Scan.{Scan}
-use Rattle.scan.specs.declared.Scan.TheVariants.{Run, Nothing}
-use Rattle.pack.specs.declared.Taken.{Taken}
-use Rattle.pack.specs.declared.Taken.TheVariants.{Packed, Unpacked}
+use Rattle.pack.specs.declared.Part.{Part}
 use Rattle.tree.specs.Ordered.{From, Fits}
 
 -- the words `ws` stand from `low` up to `high`, and nothing else is changed
@@ -37,11 +33,6 @@ pub record Packable (F : ℕ) (w : List ℕ) (p : ℕ) (t : BufferScan) (l : Lis
   pub enough : words F run ≤ low
   pub inside : low ≤ length l
 
--- the memo of a scan that found nothing, or another
-abbrev pub memo_of : Scan → Memo → Memo
-memo_of (Run t) m = m
-memo_of (Nothing n) m = n
-
 -- What taking a span needs: all that a scan needs, it and the items before it in order and nested, and room for their packed
 -- words below `low`.
 pub record Takable (F : ℕ) (own : Option ℕ) (w : List ℕ) (lo p bound : ℕ) (memo : Memo) (l : List ℕ) (low : ℕ) : Type 0 where
@@ -60,11 +51,11 @@ pub record Takable (F : ℕ) (own : Option ℕ) (w : List ℕ) (lo p bound : ℕ
 
 -- The run of k items behind the span is staged below `low` and described; or nothing is changed, and what the scan walked is
 -- remembered.
-abbrev pub Takes : (F bound i s e : ℕ) (kids rest : Items) (p : ℕ) (l : List ℕ) (low : ℕ) → Option ℕ → (r : Taken) (l' : List ℕ) → Type 0
-Takes F bound i s e kids rest p l low none r l' =
-    (m : Memo) × (r ≡ Unpacked m) × Remembered p (span i s e kids rest) (e - bound) m × (l' ≡ l)
-Takes F bound i s e kids rest p l low (some k) r l' =
+abbrev pub Takes : (F bound i s e : ℕ) (kids rest : Items) (p : ℕ) (l : List ℕ) (low : ℕ) → Option ℕ → (r : Result Part Memo) (l' : List ℕ) → Type 0
+Takes F bound i s e kids rest p l low None r l' =
+    (m : Memo) × (r ≡ Err m) × Remembered p (span i s e kids rest) (e - bound) m × (l' ≡ l)
+Takes F bound i s e kids rest p l low (Some k) r l' =
     let run = span i s e kids (first k rest) in
     let start = leftmost s (first k rest) in
-    (r ≡ Packed (record { p = p - records run; low = low - words F run; start = start; length = e - start }))
+    (r ≡ Ok (record { p = p - records run; low = low - words F run; start = start; length = e - start }))
     × Filled l l' (low - words F run) low (pack F start 0 run)

@@ -2,20 +2,17 @@
 // Packing a run: the words of its records, one 16-bit word to a word, are staged in the work slice from the top down.
 #![tactic(auto)]
 
-ghost use Rattle.std.specs.Prelude.{◌≡◌, [], ◌∷◌, ℕ, ◌+◌, ◌-◌, ◌*◌, ◌/◌, ◌<◌, ◌≤◌, length, get_or};
-ghost use Rattle.std.proofs.Math.Option.{Option};
+ghost use Rattle.std.specs.Prelude.{◌≡◌, [], ◌∷◌, ℕ, ◌+◌, ◌-◌, ◌*◌, ◌/◌, ◌<◌, ◌≤◌, length, get_or, Option};
 ghost use Rattle.words.specs.Words.{put, record_width};
 ghost use Rattle.tree.specs.Items.{Items, span};
 ghost use Rattle.tree.specs.Pack.{pack, run_from};
-ghost use Rattle.cursor.specs.Own.{own_of};
 ghost use Rattle.scan.specs.Walked.{Scans};
 ghost use Rattle.pack.specs.Copying.{span_start, behind, packed_record, Recorded, Ready, Copyable, Copies, Fills, Fillable};
-ghost use Rattle.pack.specs.Taking.{Filled, Runs, Packable, Takable, Takes, memo_of};
+ghost use Rattle.pack.specs.Taking.{Filled, Runs, Packable, Takable, Takes};
 ghost use Rattle.tree.specs.Ordered.{Fits};
 
-use cursor::InRepeat;
 use records::{end_at, start_at};
-use scan::{BufferScan, Memo, Scan, find_buffer_size};
+use scan::{BufferScan, Memo, find_buffer_size};
 use words::RECORD_WIDTH;
 
 // A part that is staged: the records still to read, its lowest word, where it starts and how long it is.
@@ -25,24 +22,6 @@ pub struct Part {
     pub low: usize,
     pub start: u32,
     pub length: u32,
-}
-
-// What taking a span gives: a part, or nothing and what the next scan under the same parent goes on from.
-#[derive(Clone, Copy)]
-pub enum Taken {
-    Packed(Part),
-    Unpacked(Memo),
-}
-
-// The four words of a packed record.
-fn put_packed(part: &mut [u32], at: usize, id: u32, start: u32, end: u32, last: u32)
-    requires { at + record_width ≤ length part.old }
-    ensures { part.new ≡ put part.old at (id ∷ start ∷ end ∷ last ∷ []) }
-{
-    part[at] = id;
-    part[at + 1] = start;
-    part[at + 2] = end;
-    part[at + 3] = last;
 }
 
 // The word where the span of the record that ends before word p begins.
@@ -64,9 +43,10 @@ fn skip_node(records: &[u32], first_repeat: u32, p: usize) -> usize
 {
     let id = records[p - RECORD_WIDTH];
     if first_repeat <= id {
-        return p - RECORD_WIDTH;
+        p - RECORD_WIDTH
+    } else {
+        begins(records, p)
     }
-    begins(records, p)
 }
 
 // Writes the packed form of the record that ends the records to word `to` of a part that its descendants end.
@@ -79,7 +59,7 @@ fn copy_record(records: &[u32], start: u32, part: &mut [u32], to: usize)
     let from = records[p - 3];
     let end = records[p - 2];
     let last = part.len();
-    put_packed(part, to, id, from - start, end - start, last as u32);
+    words::put_record(part, to, id, from - start, end - start, last as u32);
 }
 
 // Copies the node that ends the records to the end of the part: its descendants from the back, then the record itself below
@@ -141,43 +121,33 @@ fn pack_node(
     base
 }
 
-// The memo of a scan that found nothing, or the one given.
-fn left_by(found: Scan, memo: Memo) -> Memo
-    ensures { result ≡ memo_of found memo }
-{
-    match found {
-        Scan::Run(_) => memo,
-        Scan::Nothing(left) => left,
-    }
-}
-
-// Packs the run of the span that ends with record p - 1, whose parent's records begin at record lo, if there is one. A record
-// longer than the bound is not scanned.
+// Packs the run of the span that ends with record p - 1, whose parent's records begin at record lo, if there is one; else the answer
+// is what the next scan under the same parent goes on from. A record longer than the bound is not scanned.
 #[tactic(auto, using(crate::proofs::Taking::long_leaves))]
 pub fn take_run(
     records: &[u32],
     p: usize,
     lo: usize,
     first_repeat: u32,
-    own: InRepeat,
+    own: Option<u32>,
     bound: u32,
     memo: Memo,
     work: &mut [u32],
     low: usize,
-) -> Taken
-    requires { Takable first_repeat (own_of own) records.now lo p bound memo work.old low }
-    ensures { (T from to i s e : ℕ) (kids rest : Items) → Scans first_repeat (own_of own) records.now work.old lo p bound memo i s e kids rest → Fits first_repeat T from to (span i s e kids rest) → Takes first_repeat bound i s e kids rest p work.old low (run_from first_repeat bound (own_of own) i s e kids rest) result work.new }
+) -> Result<Part, Memo>
+    requires { Takable first_repeat own records.now lo p bound memo work.old low }
+    ensures { (T from to i s e : ℕ) (kids rest : Items) → Scans first_repeat own records.now work.old lo p bound memo i s e kids rest → Fits first_repeat T from to (span i s e kids rest) → Takes first_repeat bound i s e kids rest p work.old low (run_from first_repeat bound own i s e kids rest) result work.new }
 {
     let end = end_at(records, p - 1);
     if bound < end - start_at(records, p - 1) {
-        return Taken::Unpacked(memo);
+        return Err(memo);
     }
-    let found = find_buffer_size(records, work, p, lo, own, bound, memo);
-    let Scan::Run(run) = found else {
-        return Taken::Unpacked(left_by(found, memo));
+    let scanned = find_buffer_size(records, work, p, lo, own, bound, memo);
+    let Ok(run) = scanned else {
+        return Err(scanned.err().unwrap_or(memo));
     };
     let base = pack_node(records, p, first_repeat, run, work, low);
-    Taken::Packed(Part {
+    Ok(Part {
         p: p - run.size / RECORD_WIDTH,
         low: base,
         start: run.start,

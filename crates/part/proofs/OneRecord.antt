@@ -23,9 +23,6 @@ module _ (w : List ℕ) (from i : ℕ) where
     at : At from 0 w i
     at = rebased_at from 0 w i l
 
-    pub below_from : end_index w i < from → 0 ≡ end_index v i
-    below_from h = omega (arith, at.index)
-
     pub from_on : end_index w i - from ≡ end_index v i
     from_on = sym at.index
 

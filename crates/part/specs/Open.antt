@@ -4,6 +4,10 @@ use Rattle.std.specs.Prelude.{◌≡◌, List, cond, ℕ, zero, suc, ◌+◌, �
 use Rattle.words.specs.Words.{end_of, record_width}
 use Rattle.part.specs.Part.{end_index, fault, enclosing}
 use Rattle.part.specs.declared.Progress.{Progress}
+use Rattle.part.specs.Answer.{number_or_none}
+use Rattle.std.specs.declared.result.Result.{Result}
+use Rattle.std.specs.Result.{IfOk}
+use Rattle.words.specs.declared.refusal.PackedFault.{PackedFault}
 
 -- r of the first `top` ends stay open at an offset: those from r on are not above it, and the one below r is
 pub record Innermost (ends : List ℕ) (top at r : ℕ) : Type 0 where
@@ -38,6 +42,6 @@ pub record Passed (w : List ℕ) (i : ℕ) (ends ends' : List ℕ) (s r : Progre
   pub stack : Stack w ends' (i + 1) r.top
 
 -- record i was tested
-pub record Tested (w : List ℕ) (types i : ℕ) (ends ends' : List ℕ) (s r : Progress) : Type 0 where
-  pub fault_is : r.fault ≡ fault w types i
-  pub passed : r.fault ≡ 0 → Passed w i ends ends' s r
+pub record Tested (w : List ℕ) (types i : ℕ) (ends ends' : List ℕ) (s : Progress) (r : Result Progress PackedFault) : Type 0 where
+  pub fault_is : number_or_none r ≡ fault w types i
+  pub passed : IfOk r (Passed w i ends ends' s)

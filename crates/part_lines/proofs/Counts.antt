@@ -2,9 +2,10 @@
 use mathlib.Core.Path.{◌≡◌, refl, sym, ap, ◌∙◌}
 use mathlib.Core.Bool.{Bool, true, false, cond}
 use mathlib.Core.List.{List, [], ◌∷◌, ◌++◌}
-use mathlib.Core.Option.{Option, none, some}
+use Rattle.std.specs.Prelude.{Option, None, Some}
 use Prim.Native.Nat.{ℕ, suc, ◌+◌, ◌-◌, ◌*◌, ◌/◌, ◌≤◌, ◌<◌}
 use native.Mathlib.Omega.{arith}
+use borrow.Author.Tests.{lt-ltb, le-ltb}
 use lib.Dec.{ltb}
 use lib.ListN.{length, drop, length-append, length-drop}
 use Rattle.words.specs.Words.{id_of}
@@ -24,15 +25,11 @@ module _ (F : ℕ) where
     unfolding listed_in
     listed_step l = ap (listed_in F) (four_at ws i l)
 
-    pub listed_hit : (count count' : ℕ) → i * 4 + 4 ≤ length ws → ltb (id_of ws i) F ≡ true → count' ≡ count + 1 → count' + listed_in F (drop ((i + 1) * 4) ws) ≡ count + listed_in F (drop (i * 4) ws)
-    listed_hit count count' l h e =
-        let s : listed_in F (drop (i * 4) ws) ≡ listed_in F (drop ((i + 1) * 4) ws) + 1 = rw h at (listed_step l) in
-        omega arith
+    pub listed_hit : i * 4 + 4 ≤ length ws → id_of ws i < F → listed_in F (drop (i * 4) ws) ≡ listed_in F (drop ((i + 1) * 4) ws) + 1
+    listed_hit l h = rw (lt-ltb (id_of ws i) F h) at (listed_step l)
 
-    pub listed_miss : (count count' : ℕ) → i * 4 + 4 ≤ length ws → ltb (id_of ws i) F ≡ false → count' ≡ count → count' + listed_in F (drop ((i + 1) * 4) ws) ≡ count + listed_in F (drop (i * 4) ws)
-    listed_miss count count' l h e =
-        let s : listed_in F (drop (i * 4) ws) ≡ listed_in F (drop ((i + 1) * 4) ws) = rw h at (listed_step l) in
-        omega arith
+    pub listed_miss : i * 4 + 4 ≤ length ws → F ≤ id_of ws i → listed_in F (drop (i * 4) ws) ≡ listed_in F (drop ((i + 1) * 4) ws)
+    listed_miss l h = rw (le-ltb (id_of ws i) F h) at (listed_step l)
 
   -- fewer than four words are no record
   listed_none : (ws : List ℕ) → length ws < 4 → listed_in F ws ≡ 0
@@ -84,8 +81,8 @@ module _ (F : ℕ) where
 
   length_own : (d d' : ℕ) (t : Option ℕ) (s e : ℕ) → length (node_line F d t s e) ≡ length (node_line F d' t s e)
   unfolding node_line
-  length_own d d' none s e = refl
-  length_own d d' (some i) s e = length_line d d' i s e
+  length_own d d' None s e = refl
+  length_own d d' (Some i) s e = length_line d d' i s e
 
   length_depth : (d d' : ℕ) (ts : Trees) → length (listing F d ts) ≡ length (listing F d' ts)
   unfolding listing

@@ -2,7 +2,7 @@
 use mathlib.Core.Path.{◌≡◌, refl, sym, ap, ap₂, subst, ◌∙◌}
 use mathlib.Core.Bool.{Bool, true, false, cond}
 use mathlib.Core.List.{List, [], ◌∷◌, ◌++◌, append_assoc, append-nil}
-use mathlib.Core.Option.{none, some}
+use Rattle.std.specs.Prelude.{None, Some}
 use Prim.Native.Nat.{ℕ, zero, suc, ◌+◌, ◌-◌, ◌*◌, ◌≤◌, ◌<◌}
 use native.Mathlib.Omega.{arith}
 use native.Mathlib.Nat.{le_refl}
@@ -52,17 +52,19 @@ still_few held at off (suc t) = go (ltb off (get_or held (at + t) 0)) (still_few
 
 -- a step of the loop that takes the ends from the latest on
 module _ (held : List ℕ) (at off : ℕ) where
-  pub still_on : (t : ℕ) → 0 < t → off < get_or held (at + (t - 1)) 0 → still_open held at off t ≡ t
+  pub still_on : (t : ℕ) → 0 < t → off < get_or held (at + (t - 1)) 0 → still_open held at off t ≡ t - 1 + 1
   unfolding still_open
   still_on zero l h = absurd (omega arith)
-  still_on (suc t) l h = let e : suc t - 1 ≡ t = omega arith in rw (lt-ltb off (get_or held (at + t) 0) (subst (λ (k : ℕ). off < get_or held (at + k) 0) e h))
+  still_on (suc t) l h =
+      let e : suc t - 1 ≡ t = omega arith in
+      rw (lt-ltb off (get_or held (at + t) 0) (subst (λ (k : ℕ). off < get_or held (at + k) 0) e h)) (omega arith)
 
   pub still_off : (t : ℕ) → 0 < t → get_or held (at + (t - 1)) 0 ≤ off → still_open held at off t ≡ still_open held at off (t - 1)
   unfolding still_open
   still_off zero l h = absurd (omega arith)
   still_off (suc t) l h = let e : suc t - 1 ≡ t = omega arith in rw (e, le-ltb off (get_or held (at + t) 0) (subst (λ (k : ℕ). get_or held (at + k) 0 ≤ off) e h))
 
-  pub still_none : (t : ℕ) → t ≡ 0 → still_open held at off t ≡ t
+  pub still_none : (t : ℕ) → t ≤ 0 → still_open held at off t ≡ 0
   unfolding still_open
   still_none zero h = refl
   still_none (suc t) h = absurd (omega arith)
@@ -93,9 +95,9 @@ Within m (i ∷ s ∷ e ∷ x ∷ ws) = record { starts : s ≤ m; ends : e ≤ 
 spelled_within : (us : Trees) (T p lo hi m off : ℕ) (v : List ℕ) → p ≤ lo → hi ≤ p + m → Typed us → Plain T lo hi us → Within m v → Within m (spelled p off us ++ v)
 unfolding spelled id_word
 spelled_within nil T p lo hi m off v l h a w f = f
-spelled_within (tree none s k kids rest) T p lo hi m off v l h a w f = absurd a
+spelled_within (tree None s k kids rest) T p lo hi m off v l h a w f = absurd a
 spelled_within (part s k ws rest) T p lo hi m off v l h a w f = absurd a
-spelled_within (tree (some i) s k kids rest) T p lo hi m off v l h a w f =
+spelled_within (tree (Some i) s k kids rest) T p lo hi m off v l h a w f =
     let n = off + 4 + 4 * nodes kids in
     let high = well-≤ T (λ s l ws. ⊥) (s + k) hi rest w.rest in
     let A = spelled p (off + 4) kids in

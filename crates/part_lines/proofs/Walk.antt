@@ -51,6 +51,12 @@ pub record Walk (F p d from at m : ℕ) (ws out₀ held₀ out held : List ℕ) 
   pub kept : take at held ≡ take at held₀
   pub sized : length held ≡ length held₀
 
+-- The line of record i has room, and its numbers fit 32 bits.
+pub record LineFits (p : ℕ) (ws out : List ℕ) (i to : ℕ) : Type 0 where
+  pub line : to + 4 ≤ length out
+  pub start : p + start_of ws i ≤ 4294967295
+  pub end : p + end_of ws i ≤ 4294967295
+
 module _ {F p d from at : ℕ} {ws : List ℕ} (out₀ held₀ : List ℕ) (lent : Lent F p d ws (length held₀) at (length out₀) from) where
   abbrev all : List ℕ
   all = part_lines F p d 0 [] ws
@@ -160,17 +166,15 @@ module _ {F p d from at : ℕ} {ws : List ℕ} (out₀ held₀ : List ℕ) (lent
         size : length rest ≡ 4 + length (later (last_of ws i ∷ es))
         size = omega (arith, ap length hit)
 
-        pub line_fits : to + 4 ≤ length out
-        line_fits = omega (arith, size, fills, out_length, lent.lines_fit)
-
-        pub depth_fits : d + t < 4294967295
-        depth_fits = omega (arith, size, fills, lent.shallow, w.deep, still_few held at (i * 4) top)
-
-        pub ranges_fit : (p + start_of ws i ≤ 4294967295) × (p + end_of ws i ≤ 4294967295)
-        ranges_fit = (omega (arith, ranges.starts, lent.ends), omega (arith, ranges.ends, lent.ends))
-
-        pub end_fits : at + t < length held
+        end_fits : at + t < length held
         end_fits = omega (arith, still_held, lent.work_fits, w.sized)
+
+        pub line_fits : LineFits p ws out i to
+        line_fits = record {
+          line = omega (arith, size, fills, out_length, lent.lines_fit);
+          start = omega (arith, ranges.starts, lent.ends);
+          end = omega (arith, ranges.ends, lent.ends);
+        }
 
         walk_on : (out' : List ℕ) → out' ≡ put out to four → Walk F p d from at lent.len ws out₀ held₀ out' (set held (at + t) (last_of ws i)) (i + 1) (t + 1) (to + 4)
         walk_on out' o = record {

@@ -12,30 +12,17 @@ use tree::LINE_WIDTH;
 use words::RECORD_WIDTH;
 
 // How many packed records have a line: "it leaves out repeat ids".
+#[tactic(auto, using(crate::proofs::Counts::listed_hit, crate::proofs::Counts::listed_miss, crate::proofs::Counts::listed_end))]
 pub fn count_listed(words: &[u16], first_repeat: u32) -> usize
     ensures { result ≡ listed_in first_repeat words.now }
 {
-    let n = words.len() / RECORD_WIDTH;
     let mut count: usize = 0;
-    let mut i: usize = 0;
-    while i < n {
-        if words::word(words[i * RECORD_WIDTH]) < first_repeat {
+    for i in 0..words.len() / RECORD_WIDTH {
+        if u32::from(words[i * RECORD_WIDTH]) < first_repeat {
             count += 1;
         }
-        i += 1;
     }
     count
-}
-
-// Writes one line.
-pub fn put_line(lines: &mut [u32], at: usize, depth: u32, id: u32, start: u32, end: u32)
-    requires { at + line_width ≤ length lines.old }
-    ensures { lines.new ≡ put lines.old at (depth ∷ id ∷ start ∷ end ∷ []) }
-{
-    lines[at] = depth;
-    lines[at + 1] = id;
-    lines[at + 2] = start;
-    lines[at + 3] = end;
 }
 
 // Writes the line of record i of a part that starts at `start`.
@@ -46,29 +33,30 @@ fn put_record(part: &[u16], i: usize, start: u32, depth: u32, lines: &mut [u32],
     ensures { lines.new ≡ put lines.old at (depth ∷ id_of part.now i ∷ (start + start_of part.now i) ∷ (start + end_of part.now i) ∷ []) }
 {
     let word = i * RECORD_WIDTH;
-    put_line(
+    words::put(
         lines,
         at,
-        depth,
-        words::word(part[word]),
-        start + words::word(part[word + 1]),
-        start + words::word(part[word + 2]),
+        &[
+            depth,
+            u32::from(part[word]),
+            start + u32::from(part[word + 1]),
+            start + u32::from(part[word + 2]),
+        ],
     );
 }
 
 // How many of the `top` end indices at `at` in `work` lie past the word offset, the latest first.
+#[tactic(auto, using(crate::proofs::Ends::still_on, crate::proofs::Ends::still_off, crate::proofs::Ends::still_none))]
 fn open_ends(work: &[u32], at: usize, top: usize, off: usize) -> usize
     requires { at + top ≤ length work.now }
     ensures { result ≡ still_open work.now at off top }
 {
-    let mut t = top;
-    while 0 < t {
-        if off < words::index(work[at + (t - 1)]) {
-            return t;
+    for t in (0..top).rev() {
+        if off < work[at + t] as usize {
+            return t + 1;
         }
-        t -= 1;
     }
-    t
+    0
 }
 
 // Writes the lines of a part that starts at `start`, from `from` on, and answers where the next one goes. `depth` is that of its first
@@ -89,19 +77,16 @@ pub fn list_part(
     ensures lines_after { lines.new ≡ put lines.old from (listed_part first_repeat start depth part.now) }
     ensures work_unchanged { take at work.new ≡ take at work.old }
 {
-    let n = part.len() / RECORD_WIDTH;
     let mut top: usize = 0;
     let mut to = from;
-    let mut i: usize = 0;
-    while i < n {
+    for i in 0..part.len() / RECORD_WIDTH {
         top = open_ends(&*work, at, top, i * RECORD_WIDTH);
-        if words::word(part[i * RECORD_WIDTH]) < first_repeat {
+        if u32::from(part[i * RECORD_WIDTH]) < first_repeat {
             put_record(part, i, start, depth + top as u32, lines, to);
-            work[at + top] = words::word(part[i * RECORD_WIDTH + 3]);
+            work[at + top] = u32::from(part[i * RECORD_WIDTH + 3]);
             top += 1;
             to += LINE_WIDTH;
         }
-        i += 1;
     }
     to
 }

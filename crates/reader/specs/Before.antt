@@ -1,5 +1,5 @@
--- The record that a reader reads: the last one before its place. Nothing here is needed to read what a call promises.
-use Rattle.std.specs.Prelude.{List, ℕ, ◌-◌, ◌*◌, ◌<◌, ◌≤◌, length}
+-- The records that a reader reads: the last one before its place, and all before it. Nothing here is needed to read what a call promises.
+use Rattle.std.specs.Prelude.{List, [], ◌∷◌, ℕ, zero, suc, ◌-◌, ◌*◌, ◌<◌, ◌≤◌, length}
 use Rattle.words.specs.Words.{id_of, start_of, end_of, last_of, record_width}
 use Rattle.reader.specs.declared.Record.{Record}
 
@@ -17,3 +17,8 @@ record_before w p =
       size = last_of w (p - 1);
       before = p - 1;
     }
+
+-- the records before place p, from the last one back
+abbrev pub records_before : List ℕ → ℕ → List Record
+records_before w zero = []
+records_before w (suc p) = record_before w (suc p) ∷ records_before w p

@@ -4,7 +4,8 @@
 use mathlib.Core.Path.{Path, ◌≡◌, refl, sym, ap, ◌∙◌}
 use mathlib.Core.Bool.{Bool, true, false, cond, ◌&&◌, not}
 use mathlib.Core.List.{List, [], ◌∷◌}
-use mathlib.Core.Option.{Option, none, some, some-ne-none}
+use Rattle.std.specs.Prelude.{Option, None, Some}
+use Rattle.std.proofs.lemmas.Option.{none-some}
 use Prim.Native.Nat.{ℕ, zero, suc, ◌+◌, ◌-◌, ◌*◌, ◌/◌, ◌%◌, ◌≤◌, ◌<◌}
 use native.Mathlib.Omega.{arith}
 use lib.Dec.{T as So, ltb, leb, eqb, leb→le}
@@ -49,10 +50,10 @@ ranged_parse_from T (i ∷ s ∷ e ∷ n ∷ ws) done h r =
     ranged_parse_from T ws next others
     (record { known = good.known; ordered = good.ordered; inner = ranged_nearest T done k r; earlier = ranged_farther T done k r })
 
-or_none : (o o' : Option ℕ) → or_else o o' ≡ none → (o ≡ none) × (o' ≡ none)
+or_none : (o o' : Option ℕ) → or_else o o' ≡ None → (o ≡ None) × (o' ≡ None)
 unfolding or_else
-or_none none o' h = (refl, h)
-or_none (some n) o' h = absurd (some-ne-none n h)
+or_none None o' h = (refl, h)
+or_none (Some n) o' h = absurd (none-some n (sym h))
 
 -- ranges end where the last sibling does
 pub nested_to : (T lo hi hi' : ℕ) (f : Forest) → behind lo f ≤ hi' → Nested T lo hi f → Nested T lo hi' f
@@ -60,9 +61,9 @@ unfolding behind
 nested_to T lo hi hi' empty h n = h
 nested_to T lo hi hi' (add before i s e kids) h n = record { known = n.known; ordered = n.ordered; ends = h; inner = n.inner; earlier = n.earlier }
 
-placed : (t : Bool) (c : ℕ) → Path (Option ℕ) (elim t [ true ↦ none | false ↦ some c ]) none → So t
+placed : (t : Bool) (c : ℕ) → Path (Option ℕ) (elim t [ true ↦ None | false ↦ Some c ]) None → So t
 placed true c h = tt
-placed false c h = absurd (some-ne-none c h)
+placed false c h = absurd (none-some c (sym h))
 
 stands : (lo hi after s e : ℕ) → So (in_place lo hi after s e) → (after ≤ s) × (e ≤ hi)
 unfolding in_place
@@ -71,13 +72,13 @@ stands lo hi after s e t =
     (leb→le after s (and_left (leb after s) (leb e hi) both), leb→le e hi (and_right (leb after s) (leb e hi) both))
 
 -- where 10 applies to no record, ranges are nested and ordered
-pub ranges_nested : (T : ℕ) (f : Forest) (lo hi c : ℕ) → lo ≤ hi → Ranged T f → range_fault lo hi c f ≡ none → Nested T lo hi f
+pub ranges_nested : (T : ℕ) (f : Forest) (lo hi c : ℕ) → lo ≤ hi → Ranged T f → range_fault lo hi c f ≡ None → Nested T lo hi f
 unfolding range_fault
 ranges_nested T empty lo hi c l r h = l
 ranges_nested T (add before i s e kids) lo hi c l r h =
     let c' = c + count before in
     let test = in_place lo hi (behind lo before) s e in
-    let last : Option ℕ = elim test [ true ↦ none | false ↦ some (c' + count kids) ] in
+    let last : Option ℕ = elim test [ true ↦ None | false ↦ Some (c' + count kids) ] in
     let (first, more) = or_none (range_fault lo hi c before) (or_else (range_fault s e c' kids) last) h in
     let (inside, own) = or_none (range_fault s e c' kids) last more in
     let (starts, ends) = stands lo hi (behind lo before) s e (placed test (c' + count kids) own) in
@@ -107,16 +108,16 @@ records_number T (i ∷ s ∷ e ∷ n ∷ ws) done h =
     go (suc r) others rest h = absurd (omega arith)
     go zero others rest h = rest h
 
-list_accepted : (T S : ℕ) (ws : List ℕ) → number_of (list_check T S ws) ≡ 0 → (records_check T empty ws ≡ accepted []) × (list_range_fault S ws ≡ none)
+list_accepted : (T S : ℕ) (ws : List ℕ) → number_of (list_check T S ws) ≡ 0 → (records_check T empty ws ≡ accepted []) × (list_range_fault S ws ≡ None)
 unfolding list_check
 list_accepted T S ws = go (records_check T empty ws) (list_range_fault S ws) refl refl
   where
     go : (o : Outcome) (q : Option ℕ) → records_check T empty ws ≡ o → list_range_fault S ws ≡ q
         → number_of (unless_refused o (range_outcome (length ws / 4) q)) ≡ 0
-        → (records_check T empty ws ≡ accepted []) × (list_range_fault S ws ≡ none)
+        → (records_check T empty ws ≡ accepted []) × (list_range_fault S ws ≡ None)
     go (refused r c) q e f h = absurd (never r c [] (sym e ∙ records_number T ws empty (ap number_of e ∙ h)))
-    go (accepted counts) (some c) e f h = absurd (omega arith)
-    go (accepted counts) none e f h = (records_number T ws empty (ap number_of e), f)
+    go (accepted counts) (Some c) e f h = absurd (omega arith)
+    go (accepted counts) None e f h = (records_number T ws empty (ap number_of e), f)
 
 -- a test that refuses did not hold
 passed : (t : Bool) (k : ℕ) (rest : Outcome) → number_of (cond t (refused (suc k) 0) rest) ≡ 0 → (t ≡ false) × (number_of rest ≡ 0)

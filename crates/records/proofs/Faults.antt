@@ -1,8 +1,9 @@
 -- One record's tests, as the code makes them one by one; primed numbers are what the reading functions gave. By rewriting.
 -- Assumes nothing.
 use mathlib.Core.Path.{◌≡◌}
-use mathlib.Core.Bool.{true, false}
-use Prim.Native.Nat.{ℕ, suc, ◌+◌, ◌*◌, ◌%◌, ◌≤◌, ◌<◌}
+use mathlib.Core.Bool.{false}
+use Prim.Native.Nat.{ℕ, suc, ◌+◌, ◌*◌, ◌%◌, ◌≤◌, ◌<◌, max}
+use native.Mathlib.Decide.{dec_le}
 use native.Mathlib.Omega.{arith}
 use borrow.Author.Tests.{le-ltb, lt-ltb, le-leb, lt-leb, eq-eqb, ne_eqb}
 use lib.Dec.{leb}
@@ -46,24 +47,20 @@ module _ (T c i s e n i' : ℕ) (ei : i' ≡ i) where
           fault_none h =
               rw (lt-leb T i (omega arith), le-ltb e s (omega arith), le-ltb n 4 (omega arith), eq-eqb (n % 4) 0 (rw en at hm), le-ltb (4 * suc c) n (omega arith))
 
+-- a record stands where the later of the two bounds below it is not past its start
 module _ (lo hi after s e s' : ℕ) (es : s' ≡ s) where
-  pub early : s' < lo → false ≡ in_place lo hi after s e
+  pub early : s' < max lo after → false ≡ in_place lo hi after s e
   unfolding in_place
-  early h = rw (lt-leb lo s (omega arith))
+  early h = go (dec_le lo s) (dec_le after s)
+    where
+      go : Dec (lo ≤ s) → Dec (after ≤ s) → false ≡ in_place lo hi after s e
+      go (no l) a = rw (lt-leb lo s (omega arith))
+      go (yes l) (no a) = rw (le-leb lo s l, lt-leb after s (omega arith))
+      go (yes l) (yes a) = absurd (omega arith)
 
-  module _ (hl : lo ≤ s') where
-    pub overlapping : s' < after → false ≡ in_place lo hi after s e
-    unfolding in_place
-    overlapping h = rw (le-leb lo s (omega arith), lt-leb after s (omega arith))
-
-    module _ (ha : after ≤ s') (e' : ℕ) (ee : e' ≡ e) where
-      pub late : hi < e' → false ≡ in_place lo hi after s e
-      unfolding in_place
-      late h = rw (le-leb lo s (omega arith), le-leb after s (omega arith), lt-leb e hi (omega arith))
-
-      pub inside : e' ≤ hi → true ≡ in_place lo hi after s e
-      unfolding in_place
-      inside h = rw (le-leb lo s (omega arith), le-leb after s (omega arith), le-leb e hi (omega arith))
+  pub placed : max lo after ≤ s' → (e' : ℕ) → e' ≡ e → leb e' hi ≡ in_place lo hi after s e
+  unfolding in_place
+  placed h e' ee = rw (le-leb lo s (omega arith), le-leb after s (omega arith), ee)
 
 -- a record reaches from its first child's start to its last child's end
 module _ (s e first last s' : ℕ) (es : s' ≡ s) where

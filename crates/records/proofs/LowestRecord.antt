@@ -4,7 +4,7 @@
 use mathlib.Core.Path.{◌≡◌, refl, sym, ap, subst, ◌∙◌}
 use mathlib.Core.List.{List, [], ◌∷◌}
 use mathlib.Core.Bool.{true}
-use mathlib.Core.Option.{Option, none, some}
+use Rattle.std.specs.Prelude.{Option, None, Some}
 use Prim.Native.Nat.{ℕ, ◌+◌, ◌-◌, ◌*◌, ◌/◌, ◌≤◌, ◌<◌}
 use native.Mathlib.Omega.{arith}
 use lib.ListN.{length}
@@ -92,8 +92,8 @@ module _ {ws : List ℕ} {n low : ℕ} (g : LowestRecord ws n n low) where
       lowest_refused h = go (list_range_fault S ws) between (is ∙ lowest_is)
         where
           go : (o : Option ℕ) → Between 0 (0 + count (parse ws)) o → l ≡ least n o → refused 10 l ≡ range_outcome (length ws / 4) o
-          go none b m = absurd (omega arith)
-          go (some c) b m =
+          go None b m = absurd (omega arith)
+          go (Some c) b m =
               let k : l ≡ c = omega (arith, all_counted) in
               ap (refused 10) k
 
@@ -101,7 +101,7 @@ module _ {ws : List ℕ} {n low : ℕ} (g : LowestRecord ws n n low) where
       lowest_accepted h = go (list_range_fault S ws) between (is ∙ lowest_is)
         where
           go : (o : Option ℕ) → Between 0 (0 + count (parse ws)) o → l ≡ least n o → accepted (n ∷ []) ≡ range_outcome (length ws / 4) o
-          go (some c) b m = absurd (omega (arith, all_counted))
-          go none b m =
+          go (Some c) b m = absurd (omega (arith, all_counted))
+          go None b m =
               let k : n ≡ length ws / 4 = omega (arith, g.size) in
               ap (λ (x : ℕ). accepted (x ∷ [])) k

@@ -6,7 +6,7 @@ use mathlib.Core.Path.{◌≡◌, refl, sym, ap, subst, ◌∙◌}
 use mathlib.Core.List.{List, []}
 use mathlib.Core.Bool.{Bool, true, false, cond, not, ◌||◌, true≢false}
 use mathlib.Core.Logic.{◌↔◌}
-use mathlib.Core.Option.{Option, none, some}
+use Rattle.std.specs.Prelude.{Option, None, Some}
 use Prim.Native.Nat.{ℕ, zero, suc, ◌+◌, ◌-◌, ◌*◌, ◌/◌, ◌%◌, ◌≤◌, ◌<◌}
 use native.Mathlib.Decide.{ℕ_discrete}
 use native.Mathlib.Omega.{arith}
@@ -143,8 +143,8 @@ list_nine T S ws i = go (records_check T empty ws) (list_range_fault S ws)
   where
     go : (o : Outcome) (q : Option ℕ) → unless_refused o (range_outcome (length ws / 4) q) ≡ refused 9 i → o ≡ refused 9 i
     go (refused r c) q h = h
-    go (accepted counts) none h = absurd (never 9 i _ (sym h))
-    go (accepted counts) (some c) h = let z = same_number 10 c 9 i h in absurd (omega arith)
+    go (accepted counts) None h = absurd (never 9 i _ (sym h))
+    go (accepted counts) (Some c) h = let z = same_number 10 c 9 i h in absurd (omega arith)
 
 -- a test that refuses with another number did not hold
 other : (t : Bool) (r i : ℕ) (rest : Outcome) → (r ≡ 9 → ⊥) → cond t (refused r 0) rest ≡ refused 9 i → (t ≡ false) × (rest ≡ refused 9 i)

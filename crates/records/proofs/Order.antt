@@ -3,7 +3,7 @@
 -- Assumes nothing.
 use mathlib.Core.Path.{◌≡◌, refl}
 use mathlib.Core.Bool.{true}
-use mathlib.Core.Option.{none}
+use Rattle.std.specs.Prelude.{None}
 use Prim.Native.Nat.{ℕ, zero, suc, ◌+◌, ◌-◌, ◌≤◌, ◌<◌}
 use native.Mathlib.Omega.{arith}
 use native.Mathlib.Nat.{le_refl}
@@ -73,7 +73,7 @@ module _ (T : ℕ) where
   placed lo hi after s e a b c = rw (le-leb lo s a, le-leb after s b, le-leb e hi c)
 
   -- 10 applies nowhere
-  pub nested_clear : (f : Forest) (lo hi c : ℕ) → Nested T lo hi f → range_fault lo hi c f ≡ none
+  pub nested_clear : (f : Forest) (lo hi c : ℕ) → Nested T lo hi f → range_fault lo hi c f ≡ None
   unfolding range_fault or_else
   nested_clear empty lo hi c n = refl
   nested_clear (add before i s e kids) lo hi c n =

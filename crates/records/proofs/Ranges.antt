@@ -2,7 +2,7 @@
 -- forest. Assumes nothing.
 use mathlib.Core.Path.{◌≡◌, refl, ◌∙◌}
 use mathlib.Core.Bool.{Bool, true, false, cond}
-use mathlib.Core.Option.{Option, none, some}
+use Rattle.std.specs.Prelude.{Option, None, Some}
 use Prim.Native.Nat.{ℕ, zero, suc, ◌+◌, ◌-◌, ◌≤◌, ◌<◌, min}
 use native.Mathlib.Omega.{arith}
 use Rattle.records.specs.Forest.{Forest, empty, add, count, behind}
@@ -13,29 +13,29 @@ use Rattle.records.proofs.ParseLaws.{count_split}
 
 -- the number of an answer, d for none
 abbrev pub least : ℕ → Option ℕ → ℕ
-least d none = d
-least d (some n) = min d n
+least d None = d
+least d (Some n) = min d n
 
 -- an answer is none, or from a up and below b
 abbrev pub Between : (a b : ℕ) → Option ℕ → Type 0
-Between a b none = a ≤ b
-Between a b (some n) = (a ≤ n) × (n < b)
+Between a b None = a ≤ b
+Between a b (Some n) = (a ≤ n) × (n < b)
 
 between_or : (a m b : ℕ) (o o' : Option ℕ) → Between a m o → Between m b o' → Between a b (or_else o o')
 unfolding or_else
-between_or a m b none none x y = omega arith
-between_or a m b none (some n) x y = (omega arith, omega arith)
-between_or a m b (some n) none x y = (omega arith, omega arith)
-between_or a m b (some n) (some n') x y = (omega arith, omega arith)
+between_or a m b None None x y = omega arith
+between_or a m b None (Some n) x y = (omega arith, omega arith)
+between_or a m b (Some n) None x y = (omega arith, omega arith)
+between_or a m b (Some n) (Some n') x y = (omega arith, omega arith)
 
 least_or : (d a m b : ℕ) (o o' : Option ℕ) → Between a m o → Between m b o' → least d (or_else o o') ≡ min (least d o) (least d o')
 unfolding or_else
-least_or d a m b none none x y = omega arith
-least_or d a m b none (some n) x y = omega arith
-least_or d a m b (some n) none x y = omega arith
-least_or d a m b (some n) (some n') x y = omega arith
+least_or d a m b None None x y = omega arith
+least_or d a m b None (Some n) x y = omega arith
+least_or d a m b (Some n) None x y = omega arith
+least_or d a m b (Some n) (Some n') x y = omega arith
 
-own_between : (t : Bool) (a n : ℕ) → a ≤ n → Between a (suc n) (elim t [ true ↦ none | false ↦ some n ])
+own_between : (t : Bool) (a n : ℕ) → a ≤ n → Between a (suc n) (elim t [ true ↦ None | false ↦ Some n ])
 own_between true a n h = omega arith
 own_between false a n h = (h, omega arith)
 
@@ -63,7 +63,7 @@ level d lo hi c empty = d
 level d lo hi c (add before i s e kids) =
     min (level d lo hi c before) (cond (in_place lo hi (behind lo before) s e) d (c + count before + count kids))
 
-own_least : (t : Bool) (d n : ℕ) → n < d → least d (elim t [ true ↦ none | false ↦ some n ]) ≡ cond t d n
+own_least : (t : Bool) (d n : ℕ) → n < d → least d (elim t [ true ↦ None | false ↦ Some n ]) ≡ cond t d n
 own_least true d n h = refl
 own_least false d n h = omega arith
 
@@ -76,7 +76,7 @@ range_least (add before i s e kids) d lo hi c h =
     let q : ℕ = c + count before + count kids in
     let earlier : Option ℕ = range_fault lo hi c before in
     let inside : Option ℕ = range_fault s e (c + count before) kids in
-    let own : Option ℕ = elim t [ true ↦ none | false ↦ some q ] in
+    let own : Option ℕ = elim t [ true ↦ None | false ↦ Some q ] in
     let o : Between q (suc q) own = own_between t q q (omega arith) in
     let i' : Between m q inside = range_between kids s e m in
     let one : least d (or_else earlier (or_else inside own)) ≡ min (least d earlier) (least d (or_else inside own)) =

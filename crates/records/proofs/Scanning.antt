@@ -4,7 +4,7 @@
 use mathlib.Core.Path.{◌≡◌, refl, sym, ap, subst, ◌∙◌}
 use mathlib.Core.List.{List, []}
 use mathlib.Core.Bool.{Bool, true, false, ◌&&◌}
-use mathlib.Core.Option.{none}
+use Rattle.std.specs.Prelude.{None}
 use Prim.Native.Nat.{ℕ, ◌+◌, ◌-◌, ◌*◌, ◌≤◌, ◌<◌}
 use native.Mathlib.Omega.{arith}
 use borrow.Author.Tests.{leb-true}
@@ -192,7 +192,7 @@ module _ {T S : ℕ} {ws w₀ w : List ℕ} {n i height : ℕ} {ordered : Bool} 
   pub scan_clear : records_check T empty ws ≡ accepted []
   scan_clear = no_fault T ws n g.size (subst (Progress T ws) last_is g.progress)
 
-  pub scan_ordered : ordered ≡ true → list_range_fault S ws ≡ none
+  pub scan_ordered : ordered ≡ true → list_range_fault S ws ≡ None
   unfolding list_range_fault
   scan_ordered t =
       let e : finished ws i ≡ parse ws = ap (finished ws) last_is ∙ all_parsed T ws n g.size in

@@ -1,9 +1,15 @@
--- Document 01's number, place and counts for each answer of the check.
-use Rattle.std.specs.Prelude.{[], ◌∷◌}
-use Rattle.words.specs.Outcome.{Outcome, accepted, refused}
-use Rattle.records.specs.declared.Checked.{Checked}
-use Rattle.records.specs.declared.Checked.TheVariants.{Records, Refused}
+-- The number and counts that the answers of the check say.
+use Rattle.std.specs.Prelude.{ℕ, List, [], ◌∷◌}
+use Rattle.std.specs.declared.result.Result.{Result}
+use Rattle.std.specs.declared.result.Result.TheVariants.{Ok, Err}
+use Rattle.words.specs.Refusal.{list_number}
+use Rattle.words.specs.declared.refusal.RecordFault.{RecordFault}
 
-abbrev pub checked_outcome : Checked → Outcome
-checked_outcome (Records n) = accepted (n ∷ [])
-checked_outcome (Refused number place) = refused number place
+-- counts: "records for check"
+abbrev pub record_count : ℕ → List ℕ
+record_count n = n ∷ []
+
+-- the number of a fault, 0 where there is none
+abbrev pub number_or_none : {A : Type 0} → Result A RecordFault → ℕ
+number_or_none (Ok a) = 0
+number_or_none (Err fault) = list_number fault

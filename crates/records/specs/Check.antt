@@ -1,7 +1,7 @@
 -- The refusals of a record list, in document 01's order: 1, 2, 3, 4, 5, 11, then 6 to 9 record by record, then 10.
 -- The place is the number of the record at fault, counted from 0; 1 to 5 and 11 name none.
 use Rattle.std.specs.Prelude.{◌≡◌, Bool, true, false, cond, ◌&&◌, ◌||◌, not, List, [], ◌∷◌, ℕ, zero, suc, ◌+◌, ◌-◌, ◌*◌, ◌/◌, ◌%◌, ◌≤◌, ◌<◌, ltb, leb, eqb, length}
-use Rattle.std.proofs.Math.Option.{Option, none, some}
+use Rattle.std.specs.Prelude.{Option, None, Some}
 use Rattle.words.specs.Words.{record_width}
 use Rattle.words.specs.Outcome.{Outcome, accepted, refused, unless_refused}
 use Rattle.records.specs.Forest.{Forest, empty, add, count, behind}
@@ -51,18 +51,18 @@ in_place lo hi after s e = leb lo s && (leb after s && leb e hi)
 
 -- the first of two answers
 unfoldable pub or_else : Option ℕ → Option ℕ → Option ℕ
-or_else none o = o
-or_else (some n) o = some n
+or_else None o = o
+or_else (Some n) o = Some n
 
 -- 10: the lowest record of a forest, numbered from c on, under a parent from lo to hi: "a child's range leaves its parent's, or a
 -- record starts before its preceding sibling's end".
 unfoldable pub range_fault : (lo hi c : ℕ) → Forest → Option ℕ
-range_fault lo hi c empty = none
+range_fault lo hi c empty = None
 range_fault lo hi c (add before i s e kids) =
     let c' = c + count before in
     or_else (range_fault lo hi c before)
     (or_else (range_fault s e c' kids)
-    (elim (in_place lo hi (behind lo before) s e) [ true ↦ none | false ↦ some (c' + count kids) ]))
+    (elim (in_place lo hi (behind lo before) s e) [ true ↦ None | false ↦ Some (c' + count kids) ]))
 
 -- 10 in a whole list: "a first-level record starts before S". It may end anywhere: ends are 32-bit words.
 unfoldable pub list_range_fault : (S : ℕ) → List ℕ → Option ℕ
@@ -70,8 +70,8 @@ list_range_fault S ws = range_fault S 4294967295 0 (parse ws)
 
 -- 10, lowest record first; without one the count of records.
 abbrev pub range_outcome : (records : ℕ) → Option ℕ → Outcome
-range_outcome records none = accepted (records ∷ [])
-range_outcome records (some c) = refused 10 c
+range_outcome records None = accepted (records ∷ [])
+range_outcome records (Some c) = refused 10 c
 
 -- 6 to 9, then 10.
 unfoldable pub list_check : (T S : ℕ) → List ℕ → Outcome
@@ -97,4 +97,4 @@ pub record Accepted (T b top S : ℕ) (ws : List ℕ) : Type 0 where
   pub whole : length ws % record_width ≡ 0
   pub few : length ws / record_width ≤ 1048576
   pub records : records_check T empty ws ≡ accepted []
-  pub ranges : list_range_fault S ws ≡ none
+  pub ranges : list_range_fault S ws ≡ None

@@ -1,13 +1,15 @@
 -- What the functions behind the check promise. Nothing here is needed to read what the check itself promises.
-use Rattle.std.specs.Prelude.{◌≡◌, List, [], Bool, cond, ◌&&◌, ℕ, zero, suc, ◌+◌, ◌-◌, ◌*◌, ◌≤◌, min, leb, ltb, eqb, length, get_or, set, take}
-use Rattle.std.proofs.Math.Option.{none}
-use Rattle.words.specs.Outcome.{accepted, refused}
+use Rattle.std.specs.Prelude.{◌≡◌, List, [], Bool, true, false, cond, ◌&&◌, ℕ, zero, suc, ◌+◌, ◌-◌, ◌*◌, ◌≤◌, min, leb, ltb, eqb, length, get_or, set, take}
+use Rattle.std.specs.Prelude.{None}
+use Rattle.words.specs.Outcome.{accepted}
 use Rattle.words.specs.Words.{id_of, start_of, end_of, last_of, record_width}
 use Rattle.records.specs.Forest.{Forest, empty, add, count, behind, postfix}
 use Rattle.records.specs.Parse.{parse, nearest}
 use Rattle.records.specs.Check.{own_fault, records_check, in_place, list_range_fault}
-use Rattle.records.specs.declared.Scanned.{Scanned}
-use Rattle.records.specs.declared.Scanned.TheVariants.{Refused, Ordered, Unordered}
+use Rattle.std.specs.declared.result.Result.{Result}
+use Rattle.std.specs.declared.result.Result.TheVariants.{Ok, Err}
+use Rattle.words.specs.Refusal.{refused_by}
+use Rattle.words.specs.declared.refusal.Refusal.{Refusal}
 
 -- the first p records as a forest: its first level are those that no record among them has inside its span
 unfoldable pub finished : List ℕ → ℕ → Forest
@@ -49,10 +51,10 @@ abbrev pub pushed : (n : ℕ) (work : List ℕ) → (height from start : ℕ) �
 pushed n w height from start = set (set (set w from height) (n + height * 2) from) (n + height * 2 + 1) start
 
 -- what the scan answers: 6 to 9 refuse; or they do not, and 10 does not either; or they do not
-abbrev pub Says : (T S : ℕ) → List ℕ → Scanned → Type 0
-Says T S ws (Refused number place) = records_check T empty ws ≡ refused number place
-Says T S ws Ordered = (records_check T empty ws ≡ accepted []) × (list_range_fault S ws ≡ none)
-Says T S ws Unordered = records_check T empty ws ≡ accepted []
+abbrev pub Says : (T S : ℕ) → List ℕ → Result Bool Refusal → Type 0
+Says T S ws (Err r) = records_check T empty ws ≡ refused_by r
+Says T S ws (Ok true) = (records_check T empty ws ≡ accepted []) × (list_range_fault S ws ≡ None)
+Says T S ws (Ok false) = records_check T empty ws ≡ accepted []
 
 -- none of 6 to 9 applies, under some type count
 pub record Faultless (ws : List ℕ) : Type 0 where

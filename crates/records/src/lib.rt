@@ -8,29 +8,10 @@ ghost use Rattle.records.specs.Forest.{behind};
 ghost use Rattle.records.specs.Parse.{nearest};
 ghost use Rattle.records.specs.Check.{fills, in_place, list_range_fault, range_outcome, list_check, check};
 ghost use Rattle.records.specs.Taking.{finished, Spelt, fault_at, reaches, begins_at, pushed, Says, Faultless, judged};
-ghost use Rattle.records.specs.Answer.{checked_outcome};
+ghost use Rattle.words.specs.Refusal.{answered};
+ghost use Rattle.records.specs.Answer.{record_count, number_or_none};
 
-use words::{RECORD_SIZE, RECORD_WIDTH};
-
-// What the check answers.
-#[derive(Clone, Copy)]
-pub enum Checked {
-    // Accepted, with the number of records.
-    Records(u32),
-    // The refusal's number, and the number of the record at fault or 0.
-    Refused(u32, u32),
-}
-
-// What the scan over all records finds.
-#[derive(Clone, Copy)]
-pub enum Scanned {
-    // The first of 6 to 9, with its record.
-    Refused(u32, u32),
-    // None of 6 to 10 applies.
-    Ordered,
-    // None of 6 to 9 applies; 10 is still to be decided.
-    Unordered,
-}
+use words::{RECORD_SIZE, RECORD_WIDTH, RecordFault, Refusal};
 
 // The four words of record i.
 pub fn id_at(records: &[u32], i: usize) -> u32
@@ -77,31 +58,31 @@ pub fn back(p: usize) -> usize
     p - 1
 }
 
-// The first of the refusals 6 to 8 that record i draws by itself, or 0.
-fn own_fault(types: u32, records: &[u32], i: usize) -> u32
+// Tests record i by itself: 6 to 8.
+fn check_own(types: u32, records: &[u32], i: usize) -> Result<(), RecordFault>
     requires { i * record_width + record_width ≤ length records.now }
-    ensures { result ≡ fault_at types records.now i }
+    ensures { number_or_none result ≡ fault_at types records.now i }
 {
     if types <= id_at(records, i) {
-        return 6;
+        return Err(RecordFault::Id);
     }
     if end_at(records, i) < start_at(records, i) {
-        return 7;
+        return Err(RecordFault::Range);
     }
     let size = size_at(records, i) as usize;
     if size == RECORD_WIDTH {
-        return 0;
+        return Ok(());
     }
     if size < RECORD_WIDTH {
-        return 8;
+        return Err(RecordFault::Size);
     }
     if size % RECORD_WIDTH != 0 {
-        return 8;
+        return Err(RecordFault::Size);
     }
     if RECORD_WIDTH * (i + 1) < size {
-        return 8;
+        return Err(RecordFault::Size);
     }
-    0
+    Ok(())
 }
 
 // Where the last of the first p records ends, if it is one of the `left` still to be taken up; else lo.
@@ -131,17 +112,7 @@ fn covers(records: &[u32], i: usize, first: u32) -> bool
     requires i_nonzero { 0 < i }
     ensures { result ≡ reaches (start_of records.now i) (end_of records.now i) first (end_of records.now (i - 1)) }
 {
-    if first < start_at(records, i) {
-        return false;
-    }
-    end_at(records, i - 1) <= end_at(records, i)
-}
-
-// Whether both hold.
-fn both(a: bool, b: bool) -> bool
-    ensures { result ≡ (a && b) }
-{
-    if a { b } else { false }
+    start_at(records, i) <= first && end_at(records, i - 1) <= end_at(records, i)
 }
 
 // Whether `level` is the number of a sibling, one of `height`, whose span begins at record `from`.
@@ -149,10 +120,7 @@ fn begins(work: &[u32], n: usize, level: usize, from: usize, height: usize) -> b
     requires { n + height * 2 ≤ length work.now }
     ensures { result ≡ begins_at n work.now level from height }
 {
-    if height <= level {
-        return false;
-    }
-    work[n + level * 2] as usize == from
+    level < height && work[n + level * 2] as usize == from
 }
 
 // One sibling more: its span begins at record `from`.
@@ -168,10 +136,10 @@ fn push(work: &mut [u32], n: usize, height: usize, from: usize, start: u32)
     work[n + height * 2 + 1] = start;
 }
 
-// 6 to 9, record by record, and whether 10 may apply. The work slice holds the first-level siblings so far (Stacked): the
-// first child of a record is found at once, by the record at which both spans begin. Only its start and the last child's end
-// are compared with the record's range: the children are in order.
-fn scan_records(types: u32, start: u32, records: &[u32], work: &mut [u32]) -> Scanned
+// 6 to 9, record by record; without one of them, whether the list is in order, so that 10 does not apply. The work slice holds the
+// first-level siblings so far (Stacked): the first child of a record is found at once, by the record at which both spans begin. Only its
+// start and the last child's end are compared with the record's range: the children are in order.
+fn scan_records(types: u32, start: u32, records: &[u32], work: &mut [u32]) -> Result<bool, Refusal>
     requires record_width_len { length records.now % record_width ≡ 0 }
     requires record_width_len_bound { length records.now / record_width ≤ 1048576 }
     requires record_width_in_bounds { length records.now / record_width * 3 ≤ length work.old }
@@ -180,34 +148,27 @@ fn scan_records(types: u32, start: u32, records: &[u32], work: &mut [u32]) -> Sc
     let n = records.len() / RECORD_WIDTH;
     let mut ordered = true;
     let mut height: usize = 0;
-    let mut i: usize = 0;
-    while i < n {
-        let fault = own_fault(types, records, i);
-        if fault != 0 {
-            return Scanned::Refused(fault, i as u32);
+    for i in 0..n {
+        if let Err(fault) = check_own(types, records, i) {
+            return Err(Refusal::Record(fault, i));
         }
         if size_at(records, i) == RECORD_SIZE {
-            ordered = both(ordered, follows(records, i, i, start));
+            ordered &= follows(records, i, i, start);
             push(work, n, height, i, start_at(records, i));
             height += 1;
-            i += 1;
             continue;
         }
         let from = i + 1 - span_at(records, i);
         let level = work[from] as usize;
         if !begins(work, n, level, from, height) {
-            return Scanned::Refused(9, i as u32);
+            return Err(Refusal::Record(RecordFault::Span, i));
         }
         let held = covers(records, i, work[n + level * 2 + 1]);
-        ordered = both(ordered, both(held, follows(records, i, from, start)));
+        ordered &= held & follows(records, i, from, start);
         work[n + level * 2 + 1] = start_at(records, i);
         height = level + 1;
-        i += 1;
     }
-    if ordered {
-        return Scanned::Ordered;
-    }
-    Scanned::Unordered
+    Ok(ordered)
 }
 
 // Whether record i stands from lo to hi and starts at or after `after`.
@@ -215,27 +176,7 @@ fn stands(records: &[u32], i: usize, lo: u32, hi: u32, after: u32) -> bool
     requires { i * record_width + record_width ≤ length records.now }
     ensures { result ≡ in_place lo hi after (start_of records.now i) (end_of records.now i) }
 {
-    let start = start_at(records, i);
-    if start < lo {
-        return false;
-    }
-    if start < after {
-        return false;
-    }
-    if hi < end_at(records, i) {
-        return false;
-    }
-    true
-}
-
-// The lowest offender so far, after record number i.
-fn lowest_yet(good: bool, low: usize, i: usize) -> usize
-    ensures { result ≡ cond good low (min low i) }
-{
-    if good {
-        return low;
-    }
-    if i < low { i } else { low }
+    lo.max(after) <= start_at(records, i) && end_at(records, i) <= hi
 }
 
 // The children of a record from lo to hi, which are the last k of the i records before it with their descendants, from the
@@ -255,57 +196,53 @@ fn judge(records: &[u32], i: usize, k: usize, lo: u32, hi: u32, lowest: usize) -
         left -= span;
         p -= span;
         let after = behind_at(records, p, left, lo);
-        let good = stands(records, child, lo, hi, after);
-        low = lowest_yet(good, low, child);
+        if !stands(records, child, lo, hi, after) {
+            low = low.min(child);
+        }
     }
     low
 }
 
 // 10, lowest record first, where none of 6 to 9 applies. `low` is the lowest record below the first level to which 10
 // applies, n for none.
-fn check_ranges(start: u32, records: &[u32]) -> Checked
+fn check_ranges(start: u32, records: &[u32]) -> Result<usize, Refusal>
     requires record_width_len { length records.now % record_width ≡ 0 }
     requires record_width_len_bound { length records.now / record_width ≤ 1048576 }
     requires faultless { Faultless records.now }
-    ensures { checked_outcome result ≡ range_outcome (length records.now / record_width) (list_range_fault start records.now) }
+    ensures { answered record_count result ≡ range_outcome (length records.now / record_width) (list_range_fault start records.now) }
 {
     let n = records.len() / RECORD_WIDTH;
     let mut low = n;
-    let mut i: usize = 0;
-    while i < n {
+    for i in 0..n {
         let k = span_at(records, i) - 1;
         low = judge(records, i, k, start_at(records, i), end_at(records, i), low);
-        i += 1;
     }
-    let lowest = judge(records, n, n, start, 4294967295, low);
+    let lowest = judge(records, n, n, start, u32::MAX, low);
     if lowest < n {
-        return Checked::Refused(10, lowest as u32);
+        return Err(Refusal::Record(RecordFault::Place, lowest));
     }
-    Checked::Records(n as u32)
+    Ok(n)
 }
 
 // 6 to 9 record by record, then 10.
-fn check_records(types: u32, start: u32, records: &[u32], work: &mut [u32]) -> Checked
+fn check_records(
+    types: u32,
+    start: u32,
+    records: &[u32],
+    work: &mut [u32],
+) -> Result<usize, Refusal>
     requires record_width_len { length records.now % record_width ≡ 0 }
     requires record_width_len_bound { length records.now / record_width ≤ 1048576 }
     requires record_width_in_bounds { length records.now / record_width * 3 ≤ length work.old }
-    ensures { checked_outcome result ≡ list_check types start records.now }
+    ensures { answered record_count result ≡ list_check types start records.now }
 {
-    let scanned = scan_records(types, start, records, work);
-    match scanned {
-        Scanned::Refused(number, place) => {
-            return Checked::Refused(number, place);
-        }
-        Scanned::Ordered => {
-            return Checked::Records((records.len() / RECORD_WIDTH) as u32);
-        }
-        Scanned::Unordered => {
-            return check_ranges(start, records);
-        }
+    if scan_records(types, start, records, work)? {
+        return Ok(records.len() / RECORD_WIDTH);
     }
+    check_ranges(start, records)
 }
 
-// The call check. What the work slice held decides nothing.
+// The call check, which tells how many records there are. What the work slice held decides nothing.
 #[tactic(auto, unfolding(crate::specs::Check::check))]
 pub fn check(
     types: u32,
@@ -315,26 +252,26 @@ pub fn check(
     top: u32,
     records: &[u32],
     work: &mut [u32],
-) -> Checked
-    ensures { checked_outcome result ≡ check types bound top start (length work.old) records.now }
+) -> Result<usize, Refusal>
+    ensures { answered record_count result ≡ check types bound top start (length work.old) records.now }
 {
     if 65536 < types {
-        return Checked::Refused(1, 0);
+        return Err(Refusal::ManyTypes);
     }
     if 65535 < bound {
-        return Checked::Refused(2, 0);
+        return Err(Refusal::WideBound);
     }
     if types <= top {
-        return Checked::Refused(3, 0);
+        return Err(Refusal::TopId);
     }
     if records.len() % RECORD_WIDTH != 0 {
-        return Checked::Refused(4, 0);
+        return Err(Refusal::UnevenList);
     }
     if 1048576 < records.len() / RECORD_WIDTH {
-        return Checked::Refused(5, 0);
+        return Err(Refusal::ManyRecords);
     }
     if work.len() < 96 * (records.len() / RECORD_WIDTH) + 96 {
-        return Checked::Refused(11, 0);
+        return Err(Refusal::LittleWork);
     }
     check_records(types, start, records, work)
 }

@@ -7,213 +7,75 @@
 // bits. The whole text is at most 1 MiB. Any other line is a bad one.
 #![tactic(auto)]
 
-ghost use Rattle.std.specs.Prelude.{◌≡◌, ◌≤◌, length};
-
-use build::{Built, Given};
+use std::alloc::Global;
+use std::io;
+use text::{Fault, Spaced};
 
 // What the output slices of a call hold before it.
 const BEFORE: u32 = 7;
 
 const PACKED_BEFORE: u16 = 7;
 
-// How many numbers stand before the records in a line.
-const HEAD: usize = 9;
+// How many numbers a line has at most: nine, and the words of the records.
+const MOST_NUMBERS: usize = 9 + 240;
 
-fn print_number(number: u64) {
-    io::print_decimal(1, number);
-}
+// How many words the outputs have at most.
+const MOST_ROOM: usize = 900;
 
-// A word, with a space before it.
-fn print_word(word: u32) {
-    text::print(b" ");
-    print_number(word as u64);
-}
-
-fn print_words(words: &[u32]) {
-    let mut i: usize = 0;
-    while i < words.len() {
-        print_word(words[i]);
-        i += 1;
-    }
-}
-
-fn print_packed(words: &[u16]) {
-    let mut i: usize = 0;
-    while i < words.len() {
-        text::print(b" ");
-        print_number(words::wide64(words[i]));
-        i += 1;
-    }
-}
-
-fn wide(word: u32) -> usize {
-    word as usize
-}
-
-fn fill(out: &mut [u32]) {
-    let mut i: usize = 0;
-    while i < out.len() {
-        out[i] = BEFORE;
-        i += 1;
-    }
-}
-
-fn fill_packed(out: &mut [u16]) {
-    let mut i: usize = 0;
-    while i < out.len() {
-        out[i] = PACKED_BEFORE;
-        i += 1;
-    }
-}
-
-// Copies numbers of 32 bits; false where one of them is larger.
-fn narrow(numbers: &[u64], words: &mut [u32]) -> bool
-    requires { length numbers.now ≤ length words.old }
-{
-    let mut i: usize = 0;
-    while i < numbers.len() {
-        if 4294967295 < numbers[i] {
-            return false;
-        }
-        words[i] = numbers[i] as u32;
-        i += 1;
-    }
-    true
-}
-
-fn length_of(given: u32, length: u32) -> Given {
-    if given == 0 {
-        return Given::Last;
-    }
-    Given::Length(length)
-}
-
-fn print_built(answer: Built) {
-    match answer {
-        Built::Cells(count, packed) => {
-            text::print(b"cells ");
-            print_number(count as u64);
-            text::print(b" words ");
-            print_number(packed as u64);
-        }
-        Built::Refused(_, _) => text::print(b"refused"),
-    }
-}
-
-// The build of a line's list.
-fn build_list(line: &[u32], work: &mut [u32], cells: &mut [u32], words: &mut [u16])
-    requires { 9 ≤ length line.now }
-{
-    let given = length_of(line[5], line[6]);
-    let list = &line[HEAD..];
-    let answer = build::build(
-        line[0], line[1], line[2], line[3], line[4], given, list, work, cells, words,
-    );
-    print_built(answer);
-}
-
-// The same, which shows both outputs; false where they cannot have as many words as the line says.
-fn answer_build(line: &[u32], work: &mut [u32], cells: &mut [u32], words: &mut [u16]) -> bool
-    requires { 9 ≤ length line.now }
-{
-    let room = wide(line[7]);
-    if cells.len() < room {
-        return false;
-    }
-    let packed = wide(line[8]);
-    if words.len() < packed {
-        return false;
-    }
-    let lent = &mut cells[..room];
-    fill(lent);
-    let lent_packed = &mut words[..packed];
-    fill_packed(lent_packed);
-    build_list(line, work, lent, lent_packed);
-    text::print(b" :");
-    print_words(lent);
-    text::print(b" :");
-    print_packed(lent_packed);
-    text::print(b"\n");
-    true
-}
-
-// Answers a line by its numbers; false where it is a bad one.
-fn answer(
-    given: &[u64],
-    numbers: &mut [u32],
-    work: &mut [u32],
-    cells: &mut [u32],
-    words: &mut [u16],
-) -> bool {
-    let count = given.len();
-    if count < HEAD {
-        return false;
-    }
-    if numbers.len() < count {
-        return false;
-    }
-    let line = &mut numbers[..count];
-    if !narrow(given, line) {
-        return false;
-    }
-    answer_build(line, work, cells, words)
-}
-
-fn answer_line(
-    line: &[u8],
-    given: &mut [u64],
-    numbers: &mut [u32],
-    work: &mut [u32],
-    cells: &mut [u32],
-    words: &mut [u16],
-) {
-    let count = text::numbers(line, given);
-    if !answer(&given[..count], numbers, work, cells, words) {
-        text::print(b"bad line\n");
-    }
-}
-
-// Answers line after line.
-fn replay(
-    text: &[u8],
-    given: &mut [u64],
-    numbers: &mut [u32],
-    work: &mut [u32],
-    cells: &mut [u32],
-    words: &mut [u16],
-) {
-    let mut at: usize = 0;
-    while at < text.len() {
-        let end = text::line_end(text, at);
-        answer_line(&text[at..end], given, numbers, work, cells, words);
-        if end == text.len() {
-            return;
-        }
-        at = end + 1;
-    }
-}
+const MOST_PACKED: usize = 300;
 
 // The work slice for 60 records.
-fn work_room() -> [u32; 5856]
-    ensures { 5856 ≡ length result }
-{
-    [0; 5856]
-}
+const WORK: usize = 5856;
 
-fn main() {
-    let mut input = text::input_room();
-    let count = io::read_full(0, &mut input);
-    let mut given = [0u64; 249];
-    let mut numbers = [0u32; 249];
-    let mut work = work_room();
-    let mut cells = [0u32; 900];
-    let mut words = [0u16; 300];
-    replay(
-        &input[..count],
-        &mut given,
-        &mut numbers,
-        &mut work,
+// Answers the build that a line's numbers ask for, and shows both outputs.
+fn answer(alloc: Global, given: &[u64], work: &mut [u32]) -> Result<String, Fault> {
+    let line = text::narrow::<u32>(alloc, given)?;
+    let [
+        types,
+        first_repeat,
+        bound,
+        start,
+        top,
+        given,
+        length,
+        room,
+        packed,
+        records @ ..,
+    ] = line.as_slice()
+    else {
+        return Err(Fault::BadLine);
+    };
+    let (room, packed) = (*room as usize, *packed as usize);
+    if MOST_ROOM < room || MOST_PACKED < packed {
+        return Err(Fault::BadLine);
+    }
+    let mut cells = vec![in alloc; BEFORE; room]?;
+    let mut words = vec![in alloc; PACKED_BEFORE; packed]?;
+    let given = if *given == 0 { None } else { Some(*length) };
+    let built = build::build(
+        *types,
+        *first_repeat,
+        *bound,
+        *start,
+        *top,
+        given,
+        records,
+        work,
         &mut cells,
         &mut words,
     );
+    let (cells, words) = (Spaced(&cells), Spaced(&words));
+    Ok(match built {
+        Ok(written) => format!(in alloc;
+            "cells {} words {} :{cells} :{words}",
+            written.cells, written.words
+        )?,
+        Err(_) => format!(in alloc; "refused :{cells} :{words}")?,
+    })
+}
+
+fn main(rt: HostRuntime) -> io::Result<()> {
+    let alloc = rt.alloc();
+    let mut work = vec![in alloc; 0; WORK]?;
+    text::replay(&rt, MOST_NUMBERS, |given| answer(alloc, given, &mut work))
 }

@@ -7,246 +7,103 @@
 // side 8 with a sign, and every other number 32. The whole text is at most 1 MiB. Any other line is a bad one.
 #![tactic(auto)]
 
-ghost use Rattle.std.specs.Prelude.{◌≤◌, length};
-
-use part::Checked;
-use search::Searched;
-use slicing::Sliced;
-use text::Small;
+use std::alloc::Global;
+use std::io;
+use text::{Fault, Spaced};
 
 // What the output slice of a slice call holds before it.
 const BEFORE: u16 = 7;
 
-// How many numbers stand before the words in a line of each call.
-const CHECK_HEAD: usize = 3;
+// How many words a part and the output of a slice have at most, and how many numbers a line.
+const MOST_WORDS: usize = 512;
 
-const SLICE_HEAD: usize = 7;
+const MOST_NUMBERS: usize = MOST_WORDS + 9;
 
-const SEARCH_HEAD: usize = 9;
-
-fn print_number(number: u64) {
-    io::print_decimal(1, number);
+// The words of a part, as many as the line says.
+fn part(alloc: Global, count: u64, words: &[u64]) -> Result<Vec<u16>, Fault> {
+    if MOST_WORDS < words.len() || count != words.len() as u64 {
+        return Err(Fault::BadLine);
+    }
+    text::narrow(alloc, words)
 }
 
-// Each word, with a space before it.
-fn print_words(words: &[u16]) {
-    let mut i: usize = 0;
-    while i < words.len() {
-        text::print(b" ");
-        print_number(words::wide64(words[i]));
-        i += 1;
-    }
+fn small(number: u64) -> Result<i8, Fault> {
+    text::small_of(number).ok_or(Fault::BadLine)
 }
 
-fn fill(out: &mut [u16]) {
-    let mut i: usize = 0;
-    while i < out.len() {
-        out[i] = BEFORE;
-        i += 1;
-    }
+fn check(alloc: Global, types: u64, part: &[u16]) -> Result<String, Fault> {
+    Ok(match part::part_check(part, u32::try_from(types)?) {
+        Ok(figures) => format!(in alloc;
+            "records {} end {} nesting {}",
+            figures.records, figures.greatest, figures.deepest
+        )?,
+        Err(_) => String::from_str(alloc, "refused")?,
+    })
 }
 
-// Copies numbers of 16 bits; false where one of them is larger.
-fn narrow(numbers: &[u64], words: &mut [u16]) -> bool
-    requires { length numbers.now ≤ length words.old }
-{
-    let mut i: usize = 0;
-    while i < numbers.len() {
-        if 65535 < numbers[i] {
-            return false;
-        }
-        words[i] = numbers[i] as u16;
-        i += 1;
+// A slice, and the output behind it.
+fn slice(alloc: Global, asked: [u64; 5], part: &[u16]) -> Result<String, Fault> {
+    let [types, from, to, base, room] = asked;
+    let (from, to) = (u32::try_from(from)? as usize, u32::try_from(to)? as usize);
+    if (MOST_WORDS as u64) < room {
+        return Err(Fault::BadLine);
     }
-    true
-}
-
-fn answer_check(types: u32, part: &[u16]) {
-    let answer = part::part_check(part, types);
-    match answer {
-        Checked::Records(count, end, nesting) => print_counts(count, end, nesting),
-        Checked::Refused(_, _) => text::print(b"refused\n"),
-    }
-}
-
-fn print_counts(count: usize, end: u16, nesting: usize) {
-    text::print(b"records ");
-    print_number(count as u64);
-    text::print(b" end ");
-    print_number(words::wide64(end));
-    text::print(b" nesting ");
-    print_number(nesting as u64);
-    text::print(b"\n");
-}
-
-// Whether two numbers are of 32 bits, as bounds are.
-fn are_bounds(from: u64, to: u64) -> bool {
-    if 4294967295 < from {
-        return false;
-    }
-    to <= 4294967295
-}
-
-// Answers a slice of a part, by the numbers before its words; false where one of these is not of its range.
-fn answer_slice(types: u32, given: &[u64], part: &[u16], out: &mut [u16]) -> bool
-    requires { 7 ≤ length given.now }
-{
-    if !are_bounds(given[2], given[3]) {
-        return false;
-    }
-    let base = given[4];
-    if 4294967295 < base {
-        return false;
-    }
-    let room = given[5] as usize;
-    if out.len() < room {
-        return false;
-    }
-    let cut = &mut out[..room];
-    fill(cut);
-    let from = given[2] as usize;
-    let to = given[3] as usize;
-    let answer = slicing::slice(part, types, from, to, base as u32, cut);
-    match answer {
-        Sliced::Words(count, length) => print_slice(count, length),
-        Sliced::Refused(_, _) => text::print(b"refused"),
-    }
-    text::print(b" :");
-    print_words(cut);
-    text::print(b"\n");
-    true
-}
-
-fn print_slice(count: usize, length: u16) {
-    text::print(b"words ");
-    print_number(count as u64);
-    text::print(b" length ");
-    print_number(words::wide64(length));
-}
-
-// Answers a search in a part, in the same way.
-fn answer_search(types: u32, given: &[u64], part: &[u16]) -> bool
-    requires { 9 ≤ length given.now }
-{
-    if !are_bounds(given[2], given[3]) {
-        return false;
-    }
-    let direction_given = text::small_of(given[4]);
-    let Small::Of(direction) = direction_given else {
-        return false;
-    };
-    let side_given = text::small_of(given[7]);
-    let Small::Of(side) = side_given else {
-        return false;
-    };
-    let position = given[5];
-    if 4294967295 < position {
-        return false;
-    }
-    let base = given[6];
-    if 4294967295 < base {
-        return false;
-    }
-    let from = given[2] as usize;
-    let to = given[3] as usize;
-    let answer = search::search(
+    let mut out = vec![in alloc; BEFORE; room as usize]?;
+    let sliced = slicing::slice(
         part,
-        types,
+        u32::try_from(types)?,
         from,
         to,
-        direction,
-        position as u32,
-        base as u32,
-        side,
+        u32::try_from(base)?,
+        &mut out,
     );
-    print_search(answer);
-    true
+    let out = Spaced(&out);
+    Ok(match sliced {
+        Ok(slice) => format!(in alloc; "words {} length {} :{out}", slice.words, slice.length)?,
+        Err(_) => format!(in alloc; "refused :{out}")?,
+    })
 }
 
-fn print_search(answer: Searched) {
-    match answer {
-        Searched::Match(at) => {
-            text::print(b"match ");
-            print_number(at as u64);
-            text::print(b"\n");
+fn search(alloc: Global, asked: [u64; 7], part: &[u16]) -> Result<String, Fault> {
+    let [types, from, to, direction, position, base, side] = asked;
+    let searched = search::search(
+        part,
+        u32::try_from(types)?,
+        u32::try_from(from)? as usize,
+        u32::try_from(to)? as usize,
+        small(direction)?,
+        u32::try_from(position)?,
+        u32::try_from(base)?,
+        small(side)?,
+    );
+    Ok(match searched {
+        Ok(Some(at)) => format!(in alloc; "match {at}")?,
+        Ok(None) => String::from_str(alloc, "none")?,
+        Err(_) => String::from_str(alloc, "refused")?,
+    })
+}
+
+// Answers the call that a line's numbers ask for.
+fn answer(alloc: Global, given: &[u64]) -> Result<String, Fault> {
+    match given {
+        [1, types, n, words @ ..] => check(alloc, *types, &part(alloc, *n, words)?),
+        [2, types, from, to, base, room, n, words @ ..] => {
+            let part = part(alloc, *n, words)?;
+            slice(alloc, [*types, *from, *to, *base, *room], &part)
         }
-        Searched::NoMatch => text::print(b"none\n"),
-        Searched::Refused(_, _) => text::print(b"refused\n"),
-    }
-}
-
-// How many numbers of a line stand before its words, by the first of them; 0 where there is no such call.
-fn head_of(call: u64) -> usize {
-    match call {
-        1 => CHECK_HEAD,
-        2 => SLICE_HEAD,
-        3 => SEARCH_HEAD,
-        _ => 0,
-    }
-}
-
-// Answers the call that a line's numbers ask for; false where they ask for none.
-fn answer(given: &[u64], words: &mut [u16], out: &mut [u16]) -> bool {
-    if given.len() == 0 {
-        return false;
-    }
-    let head = head_of(given[0]);
-    if head < CHECK_HEAD {
-        return false;
-    }
-    if given.len() < head {
-        return false;
-    }
-    let count = given.len() - head;
-    if given[head - 1] != count as u64 {
-        return false;
-    }
-    if words.len() < count {
-        return false;
-    }
-    let part = &mut words[..count];
-    if !narrow(&given[head..], part) {
-        return false;
-    }
-    if 4294967295 < given[1] {
-        return false;
-    }
-    let types = given[1] as u32;
-    match head {
-        SLICE_HEAD => answer_slice(types, given, part, out),
-        SEARCH_HEAD => answer_search(types, given, part),
-        _ => {
-            answer_check(types, part);
-            true
+        [3, types, from, to, way, position, base, side, n, words @ ..] => {
+            let part = part(alloc, *n, words)?;
+            search(
+                alloc,
+                [*types, *from, *to, *way, *position, *base, *side],
+                &part,
+            )
         }
+        _ => Err(Fault::BadLine),
     }
 }
 
-fn answer_line(line: &[u8], numbers: &mut [u64], words: &mut [u16], out: &mut [u16]) {
-    let count = text::numbers(line, numbers);
-    if !answer(&numbers[..count], words, out) {
-        text::print(b"bad line\n");
-    }
-}
-
-// Answers line after line.
-fn replay(text: &[u8], numbers: &mut [u64], words: &mut [u16], out: &mut [u16]) {
-    let mut at: usize = 0;
-    while at < text.len() {
-        let end = text::line_end(text, at);
-        answer_line(&text[at..end], numbers, words, out);
-        if end == text.len() {
-            return;
-        }
-        at = end + 1;
-    }
-}
-
-fn main() {
-    let mut input = text::input_room();
-    let count = io::read_full(0, &mut input);
-    let mut numbers = [0u64; 521];
-    let mut words = [0u16; 512];
-    let mut out = [0u16; 512];
-    replay(&input[..count], &mut numbers, &mut words, &mut out);
+fn main(rt: HostRuntime) -> io::Result<()> {
+    let alloc = rt.alloc();
+    text::replay(&rt, MOST_NUMBERS, |given| answer(alloc, given))
 }

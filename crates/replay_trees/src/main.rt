@@ -9,348 +9,135 @@
 // is at most 1 MiB. Any other line is a bad one.
 #![tactic(auto)]
 
-ghost use Rattle.std.specs.Prelude.{◌≡◌, ◌≤◌, length};
-
-use balance::Balanced;
-use listing::Listed;
-use materialize::Materialized;
+use std::alloc::{AllocError, Global};
+use std::io;
+use text::{Fault, Spaced};
 
 // What the output slices of a call hold before it.
 const BEFORE: u32 = 7;
 
 const PACKED_BEFORE: u16 = 7;
 
-// How many numbers stand before the cells in a line.
-const HEAD: usize = 7;
+// How many words the cells, the packed words and the output have at most, and how many numbers a line.
+const MOST_CELLS: usize = 700;
 
-fn print_number(number: u64) {
-    io::print_decimal(1, number);
-}
+const MOST_WORDS: usize = 400;
 
-// A word, with a space before it.
-fn print_word(word: u32) {
-    text::print(b" ");
-    print_number(word as u64);
-}
+const MOST_ROOM: usize = 1400;
 
-fn print_words(words: &[u32]) {
-    let mut i: usize = 0;
-    while i < words.len() {
-        print_word(words[i]);
-        i += 1;
-    }
-}
-
-fn print_packed(words: &[u16]) {
-    let mut i: usize = 0;
-    while i < words.len() {
-        text::print(b" ");
-        print_number(words::wide64(words[i]));
-        i += 1;
-    }
-}
-
-fn wide(word: u32) -> usize {
-    word as usize
-}
-
-fn fill(out: &mut [u32]) {
-    let mut i: usize = 0;
-    while i < out.len() {
-        out[i] = BEFORE;
-        i += 1;
-    }
-}
-
-fn fill_packed(out: &mut [u16]) {
-    let mut i: usize = 0;
-    while i < out.len() {
-        out[i] = PACKED_BEFORE;
-        i += 1;
-    }
-}
-
-// Copies numbers of 32 bits; false where one of them is larger.
-fn narrow(numbers: &[u64], words: &mut [u32]) -> bool
-    requires { length numbers.now ≤ length words.old }
-{
-    let mut i: usize = 0;
-    while i < numbers.len() {
-        if 4294967295 < numbers[i] {
-            return false;
-        }
-        words[i] = numbers[i] as u32;
-        i += 1;
-    }
-    true
-}
-
-// Copies numbers of 16 bits; false where one of them is larger.
-fn narrow_packed(numbers: &[u64], words: &mut [u16]) -> bool
-    requires { length numbers.now ≤ length words.old }
-{
-    let mut i: usize = 0;
-    while i < numbers.len() {
-        if 65535 < numbers[i] {
-            return false;
-        }
-        words[i] = numbers[i] as u16;
-        i += 1;
-    }
-    true
-}
-
-fn answer_materialise(types: u32, cells: &[u32], words: &[u16], work: &mut [u32], out: &mut [u32]) {
-    let answer = materialize::materialize(types, cells, words, work, out);
-    match answer {
-        Materialized::Cells(count) => {
-            text::print(b"cells ");
-            print_number(count as u64);
-        }
-        Materialized::Refused(_, _) => text::print(b"refused"),
-    }
-}
-
-fn answer_list(given: &[u32], words: &[u16], work: &mut [u32], out: &mut [u32])
-    requires { 7 ≤ length given.now }
-{
-    let answer = listing::list(
-        given[1],
-        given[2],
-        given[3],
-        &given[HEAD..],
-        words,
-        work,
-        out,
-    );
-    match answer {
-        Listed::Lines(count) => {
-            text::print(b"lines ");
-            print_number(count as u64);
-        }
-        Listed::Refused(_, _) => text::print(b"refused"),
-    }
-}
-
-fn is_call(call: u32) -> bool {
-    match call {
-        1 => true,
-        2 => true,
-        _ => false,
-    }
-}
-
-// Answers a call by the numbers up to its last cell and its packed words.
-fn answer_call(given: &[u32], words: &[u16], work: &mut [u32], out: &mut [u32])
-    requires { 7 ≤ length given.now }
-{
-    if given[0] == 1 {
-        answer_materialise(given[1], &given[HEAD..], words, work, out);
-        return;
-    }
-    answer_list(given, words, work, out);
-}
-
-// The same, with as much of the output as the call is lent, which is shown afterwards; false where there is no such call.
-fn answer_lent(given: &[u32], words: &[u16], work: &mut [u32], out: &mut [u32]) -> bool
-    requires { 7 ≤ length given.now }
-{
-    let room = wide(given[4]);
-    if out.len() < room {
-        return false;
-    }
-    if !is_call(given[0]) {
-        return false;
-    }
-    let lent = &mut out[..room];
-    fill(lent);
-    answer_call(given, words, work, lent);
-    text::print(b" :");
-    print_words(lent);
-    text::print(b"\n");
-    true
-}
-
-fn print_balanced(answer: Balanced) {
-    match answer {
-        Balanced::Cells(count, second) => {
-            text::print(b"cells ");
-            print_number(count as u64);
-            text::print(b" words ");
-            print_number(second as u64);
-        }
-        Balanced::Refused(_, _) => text::print(b"refused"),
-    }
-}
-
-// Answers balancing, and shows both outputs.
-fn answer_balance(
-    given: &[u32],
-    words: &[u16],
-    work: &mut [u32],
-    out: &mut [u32],
-    packed: &mut [u16],
-) -> bool
-    requires { 7 ≤ length given.now }
-{
-    let room = wide(given[4]);
-    if out.len() < room {
-        return false;
-    }
-    if packed.len() < words.len() {
-        return false;
-    }
-    let lent = &mut out[..room];
-    fill(lent);
-    let lent_packed = &mut packed[..words.len()];
-    fill_packed(lent_packed);
-    let answer = balance::balance(
-        given[1],
-        given[2] != 0,
-        &given[HEAD..],
-        words,
-        work,
-        lent,
-        lent_packed,
-    );
-    print_balanced(answer);
-    text::print(b" :");
-    print_words(lent);
-    text::print(b" :");
-    print_packed(lent_packed);
-    text::print(b"\n");
-    true
-}
-
-// Answers the call of a line by its numbers and its packed words.
-fn answer_any(
-    given: &[u32],
-    words: &[u16],
-    work: &mut [u32],
-    out: &mut [u32],
-    packed: &mut [u16],
-) -> bool
-    requires { 7 ≤ length given.now }
-{
-    if given[0] == 3 {
-        return answer_balance(given, words, work, out, packed);
-    }
-    answer_lent(given, words, work, out)
-}
-
-// Answers the call that a line's numbers ask for; false where they ask for none. `head` of them stand before the packed words.
-fn answer_split(
-    given: &[u64],
-    head: usize,
-    numbers: &mut [u32],
-    words: &mut [u16],
-    work: &mut [u32],
-    out: &mut [u32],
-    packed: &mut [u16],
-) -> bool
-    requires le_head { 7 ≤ head }
-    requires head_in_bounds { head ≤ length given.now }
-{
-    let count = given.len() - head;
-    if numbers.len() < head {
-        return false;
-    }
-    if words.len() < count {
-        return false;
-    }
-    let line = &mut numbers[..head];
-    if !narrow(&given[..head], line) {
-        return false;
-    }
-    let held = &mut words[..count];
-    if !narrow_packed(&given[head..], held) {
-        return false;
-    }
-    answer_any(line, held, work, out, packed)
-}
-
-// The same; the words are as many as the line says.
-fn answer(
-    given: &[u64],
-    numbers: &mut [u32],
-    words: &mut [u16],
-    work: &mut [u32],
-    out: &mut [u32],
-    packed: &mut [u16],
-) -> bool {
-    if given.len() < HEAD {
-        return false;
-    }
-    let rest = given.len() - HEAD;
-    if (rest as u64) < given[5] {
-        return false;
-    }
-    let cells = given[5] as usize;
-    if given[6] != (rest - cells) as u64 {
-        return false;
-    }
-    answer_split(given, HEAD + cells, numbers, words, work, out, packed)
-}
-
-fn answer_line(
-    line: &[u8],
-    given: &mut [u64],
-    numbers: &mut [u32],
-    words: &mut [u16],
-    work: &mut [u32],
-    out: &mut [u32],
-    packed: &mut [u16],
-) {
-    let count = text::numbers(line, given);
-    if !answer(&given[..count], numbers, words, work, out, packed) {
-        text::print(b"bad line\n");
-    }
-}
-
-// Answers line after line.
-fn replay(
-    text: &[u8],
-    given: &mut [u64],
-    numbers: &mut [u32],
-    words: &mut [u16],
-    work: &mut [u32],
-    out: &mut [u32],
-    packed: &mut [u16],
-) {
-    let mut at: usize = 0;
-    while at < text.len() {
-        let end = text::line_end(text, at);
-        answer_line(&text[at..end], given, numbers, words, work, out, packed);
-        if end == text.len() {
-            return;
-        }
-        at = end + 1;
-    }
-}
+const MOST_NUMBERS: usize = 7 + MOST_CELLS + MOST_WORDS;
 
 // The work slice for 100 cells and 100 packed records.
-fn work_room() -> [u32; 19296]
-    ensures { 19296 ≡ length result }
-{
-    [0; 19296]
+const WORK: usize = 19296;
+
+// What a line asks for.
+#[derive(Drop)]
+struct Asked {
+    call: u64,
+    types: u32,
+    first_repeat: u32,
+    start: u32,
+    room: usize,
+    cells: Vec<u32>,
+    words: Vec<u16>,
 }
 
-fn main() {
-    let mut input = text::input_room();
-    let count = io::read_full(0, &mut input);
-    let mut given = [0u64; 1107];
-    let mut numbers = [0u32; 707];
-    let mut words = [0u16; 400];
-    let mut out = [0u32; 1400];
-    let mut packed = [0u16; 400];
-    let mut work = work_room();
-    replay(
-        &input[..count],
-        &mut given,
-        &mut numbers,
-        &mut words,
-        &mut work,
-        &mut out,
-        &mut packed,
-    );
+impl Asked {
+    // By a line's numbers.
+    fn of(alloc: Global, given: &[u64]) -> Result<Asked, Fault> {
+        let [call, types, first_repeat, start, room, n, m, rest @ ..] = given else {
+            return Err(Fault::BadLine);
+        };
+        let (room, n) = (usize::try_from(*room)?, usize::try_from(*n)?);
+        if rest.len() < n || MOST_CELLS < n || MOST_ROOM < room {
+            return Err(Fault::BadLine);
+        }
+        let (cells, words) = rest.split_at(n);
+        if MOST_WORDS < words.len() || *m != words.len() as u64 {
+            return Err(Fault::BadLine);
+        }
+        Ok(Asked {
+            call: *call,
+            types: u32::try_from(*types)?,
+            first_repeat: u32::try_from(*first_repeat)?,
+            start: u32::try_from(*start)?,
+            room,
+            cells: text::narrow(alloc, cells)?,
+            words: text::narrow(alloc, words)?,
+        })
+    }
+
+    fn materialise(
+        &self,
+        alloc: Global,
+        work: &mut [u32],
+        out: &mut [u32],
+    ) -> Result<String, AllocError> {
+        match materialize::materialize(self.types, &self.cells, &self.words, work, out) {
+            Ok(count) => format!(in alloc; "cells {count}"),
+            Err(_) => String::from_str(alloc, "refused"),
+        }
+    }
+
+    fn list(&self, alloc: Global, work: &mut [u32], out: &mut [u32]) -> Result<String, AllocError> {
+        match listing::list(
+            self.types,
+            self.first_repeat,
+            self.start,
+            &self.cells,
+            &self.words,
+            work,
+            out,
+        ) {
+            Ok(count) => format!(in alloc; "lines {count}"),
+            Err(_) => String::from_str(alloc, "refused"),
+        }
+    }
+
+    fn balance(
+        &self,
+        alloc: Global,
+        work: &mut [u32],
+        out: &mut [u32],
+        packed: &mut [u16],
+    ) -> Result<String, AllocError> {
+        match balance::balance(
+            self.types,
+            self.first_repeat != 0,
+            &self.cells,
+            &self.words,
+            work,
+            out,
+            packed,
+        ) {
+            Ok(written) => format!(in alloc; "cells {} words {}", written.cells, written.words),
+            Err(_) => String::from_str(alloc, "refused"),
+        }
+    }
+
+    // The answer, and behind it the output, of balance both outputs.
+    fn answer(&self, alloc: Global, work: &mut [u32]) -> Result<String, Fault> {
+        let mut out = vec![in alloc; BEFORE; self.room]?;
+        let answer = match self.call {
+            1 => self.materialise(alloc, work, &mut out)?,
+            2 => self.list(alloc, work, &mut out)?,
+            3 => {
+                let mut packed = vec![in alloc; PACKED_BEFORE; self.words.len()]?;
+                let answer = self.balance(alloc, work, &mut out, &mut packed)?;
+                return Ok(format!(in alloc; "{answer} :{} :{}", Spaced(&out), Spaced(&packed))?);
+            }
+            _ => return Err(Fault::BadLine),
+        };
+        Ok(format!(in alloc; "{answer} :{}", Spaced(&out))?)
+    }
+}
+
+fn main(rt: HostRuntime) -> io::Result<()> {
+    let alloc = rt.alloc();
+    let mut work = vec![in alloc; 0; WORK]?;
+    text::replay(
+        &rt,
+        MOST_NUMBERS,
+        |given| Asked::of(alloc, given)?.answer(alloc, &mut work),
+    )
 }

@@ -3,7 +3,7 @@
 use mathlib.Core.Path.{◌≡◌, refl}
 use mathlib.Core.Bool.{Bool, true, false, cond}
 use mathlib.Core.List.{List, [], ◌∷◌}
-use mathlib.Core.Option.{Option, none, some}
+use Rattle.std.specs.Prelude.{Option, None, Some}
 use Prim.Native.Nat.{ℕ, ◌+◌, ◌*◌, ◌/◌, ◌≤◌, ◌<◌}
 use native.Mathlib.Omega.{arith}
 use borrow.Author.Tests.{le-ltb, lt-ltb}
@@ -36,11 +36,11 @@ module _ (T S : ℕ) (cs ws : List ℕ) (work : ℕ) (next : Outcome) where
     work_refused h = rw (le-ltb 65536 T types, lt-ltb work (96 * items cs ws + 96) h)
 
     module _ (lent : 96 * items cs ws + 96 ≤ work) where
-      pub cell_refused : (c : ℕ) → bad_cell T S cs ws ≡ some c → unless_bad T S cs ws work next ≡ refused 15 c
+      pub cell_refused : (c : ℕ) → bad_cell T S cs ws ≡ Some c → unless_bad T S cs ws work next ≡ refused 15 c
       unfolding unless_bad
       cell_refused c h = rw (le-ltb 65536 T types, le-ltb work (96 * items cs ws + 96) lent, h)
 
-      pub not_refused : bad_cell T S cs ws ≡ none → unless_bad T S cs ws work next ≡ next
+      pub not_refused : bad_cell T S cs ws ≡ None → unless_bad T S cs ws work next ≡ next
       unfolding unless_bad
       not_refused h = rw (le-ltb 65536 T types, le-ltb work (96 * items cs ws + 96) lent, h)
 
@@ -106,7 +106,7 @@ module _ (T : ℕ) (cs ws : List ℕ) (work : ℕ) (out : List ℕ) (number plac
 
 -- a call on accepted cells with what it asks lent
 module _ (T : ℕ) (types : T ≤ 65536) (cs ws : List ℕ) (work : ℕ) (out : List ℕ) where
-  pub materialise_writes : (ok : bad_cell T 0 cs ws ≡ none) → 96 * items cs ws + 96 ≤ work
+  pub materialise_writes : (ok : bad_cell T 0 cs ws ≡ None) → 96 * items cs ws + 96 ≤ work
       → nodes (materialise (handed_in cs ws)) ≤ 4294967295 → cell_width * nodes (materialise (handed_in cs ws)) ≤ length out
       → materialise_call T cs ws work out ≡ record {
         outcome = accepted (nodes (materialise (handed_in cs ws)) ∷ 0 ∷ []);
@@ -117,7 +117,7 @@ module _ (T : ℕ) (types : T ≤ 65536) (cs ws : List ℕ) (work : ℕ) (out : 
       let n = nodes (materialise (handed_in cs ws)) in
       rw (not_refused T 0 cs ws work (result_room n 0 (length out) 0) types lent ok, enough n 0 (length out) 0 few room (omega arith))
 
-  pub list_writes : (F S : ℕ) (ok : bad_cell T S cs ws ≡ none) → 96 * items cs ws + 96 ≤ work
+  pub list_writes : (F S : ℕ) (ok : bad_cell T S cs ws ≡ None) → 96 * items cs ws + 96 ≤ work
       → length (list_cells F S cs ws) / line_width ≤ 4294967295 → length (list_cells F S cs ws) ≤ length out
       → list_call T F S cs ws work out ≡ record {
         outcome = accepted (length (list_cells F S cs ws) / line_width ∷ []);
@@ -129,7 +129,7 @@ module _ (T : ℕ) (types : T ≤ 65536) (cs ws : List ℕ) (work : ℕ) (out : 
       rw (not_refused T S cs ws work (lines_room n (length out)) types lent ok, enough_lines n (length out) few room)
 
   -- balance with what all tree calls ask: its own refusals are left
-  module _ (f : Bool) (words : List ℕ) (ok : bad_cell T 0 cs ws ≡ none) (lent : 96 * items cs ws + 96 ≤ work) where
+  module _ (f : Bool) (words : List ℕ) (ok : bad_cell T 0 cs ws ≡ None) (lent : 96 * items cs ws + 96 ≤ work) where
     pub balance_many : most_items < items cs ws → balance_call T f cs ws work out words ≡ record { outcome = refused 12 0; outputs = out ∷ words ∷ [] }
     unfolding balance_call
     balance_many many =
@@ -147,7 +147,7 @@ module _ (T : ℕ) (types : T ≤ 65536) (cs ws : List ℕ) (work : ℕ) (out : 
           few_items f cs ws (length out) (length words) most,
         )
 
-  pub balance_writes : (f : Bool) (words : List ℕ) (ok : bad_cell T 0 cs ws ≡ none) → 96 * items cs ws + 96 ≤ work → items cs ws ≤ most_items
+  pub balance_writes : (f : Bool) (words : List ℕ) (ok : bad_cell T 0 cs ws ≡ None) → 96 * items cs ws + 96 ≤ work → items cs ws ≤ most_items
       → nodes (balanced f (handed_in cs ws)) ≤ 4294967295 → cell_width * nodes (balanced f (handed_in cs ws)) ≤ length out → length (balance_cells f cs ws).words ≤ length words
       → balance_call T f cs ws work out words ≡ record {
         outcome = accepted (nodes (balanced f (handed_in cs ws)) ∷ length (balance_cells f cs ws).words ∷ []);

@@ -2,7 +2,7 @@
 use mathlib.Core.Path.{◌≡◌, refl, ap, ◌∙◌}
 use mathlib.Core.Bool.{Bool, true, false, ◌&&◌, ◌||◌, not}
 use mathlib.Core.List.{List, [], ◌∷◌, ◌++◌}
-use mathlib.Core.Option.{Option, none, some}
+use Rattle.std.specs.Prelude.{Option, None, Some}
 use Prim.Native.Nat.{ℕ, suc, ◌+◌, ◌≤◌, ◌<◌}
 use native.Mathlib.Omega.{arith}
 use borrow.Author.Tests.{le-ltb, lt-ltb, le-leb, lt-leb, eq-eqb, ne_eqb, eqb-false}
@@ -50,8 +50,8 @@ apart_due m x after within base ts c ds h e a = go (eqb x 0) refl ts e
 module _ (T : ℕ) (types : T ≤ 65536) (ws : List ℕ) (n S hi : ℕ) (fits : S + hi ≤ 4294967295) where
   -- the end that siblings reach at most, counted from 0
   unfoldable pub upper : Option ℕ → ℕ → ℕ
-  upper none b = hi
-  upper (some l) b = b + l
+  upper None b = hi
+  upper (Some l) b = b + l
 
   pub link_kept : (c c' : ℕ) (ts : Trees) → c < c' → c' + nodes ts ≤ suc n → link_broken n c (unless_none ts c') ≡ false
   unfolding link_broken unless_none nodes
@@ -75,9 +75,9 @@ module _ (T : ℕ) (types : T ≤ 65536) (ws : List ℕ) (n S hi : ℕ) (fits : 
   unfolding inside_broken upper
   inside_kept d k b h = go d.within h
     where
-      go : (o : Option ℕ) → b + (k.position + k.len) ≤ upper o b → elim o [ none ↦ false | some l ↦ ltb l (k.position + k.len) ] ≡ false
-      go none h = refl
-      go (some l) h = le-ltb l (k.position + k.len) (omega arith)
+      go : (o : Option ℕ) → b + (k.position + k.len) ≤ upper o b → elim o [ None ↦ false | Some l ↦ ltb l (k.position + k.len) ] ≡ false
+      go None h = refl
+      go (Some l) h = le-ltb l (k.position + k.len) (omega arith)
 
   end_kept : (c : ℕ) (d : Named) (k : Cell) (b : ℕ) → d.base ≡ S + b → b + (k.position + k.len) ≤ hi → end_broken c d k ≡ false
   unfolding end_broken
@@ -93,24 +93,24 @@ module _ (T : ℕ) (types : T ≤ 65536) (ws : List ℕ) (n S hi : ℕ) (fits : 
     tree_kind = go t
       where
         go : (t : Option ℕ) → eqb (kind t) 2 ≡ false
-        go none = refl
-        go (some i) = refl
+        go None = refl
+        go (Some i) = refl
 
     kinds_kept : kind_broken cell_of_tree ≡ false
     unfolding kind_broken kind
     kinds_kept = go t
       where
         go : (t : Option ℕ) → not (eqb (kind t) 1 || (eqb (kind t) 3 || eqb (kind t) 2)) ≡ false
-        go none = refl
-        go (some i) = refl
+        go None = refl
+        go (Some i) = refl
 
     ids_kept : Known T t → id_broken T cell_of_tree ≡ false
     unfolding id_broken kind id_word
     ids_kept h = go t h
       where
         go : (t : Option ℕ) → Known T t → elim (eqb (kind t) 1) [ true ↦ leb T (id_word t) | false ↦ not (eqb (id_word t) 0) ] ≡ false
-        go none h = refl
-        go (some i) h = lt-leb T i h
+        go None h = refl
+        go (Some i) h = lt-leb T i h
 
     child_kept : first_child cell_of_tree ≡ unless_none kids (suc c)
     unfolding first_child

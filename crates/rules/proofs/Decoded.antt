@@ -2,7 +2,8 @@
 use mathlib.Core.Path.{◌≡◌, refl, sym, ap, subst, ◌∙◌}
 use mathlib.Core.Bool.{Bool, true, false, ◌&&◌, ◌||◌, not, true≢false}
 use mathlib.Core.List.{List, [], ◌∷◌, ◌++◌, append-nil}
-use mathlib.Core.Option.{Option, none, some, some-ne-none}
+use Rattle.std.specs.Prelude.{Option, None, Some}
+use Rattle.std.proofs.lemmas.Option.{none-some}
 use Prim.Native.Nat.{ℕ, zero, suc, ◌+◌, ◌-◌, ◌%◌, ◌≤◌, ◌<◌}
 use native.Mathlib.Omega.{arith}
 use borrow.Author.Tests.{eq-eqb, ne_eqb, ltb-false, leb-false, eqb-true, eqb-false, not-false}
@@ -59,12 +60,12 @@ module _ (T : ℕ) (ws : List ℕ) (n : ℕ) where
   ahead_first c d k ds h a = go (is_part k) h
     where
       go : (p : Bool) → link_broken n c (elim p [ true ↦ 0 | false ↦ k.first ]) ≡ false
-          → Ahead (suc c) (elim (eqb (elim p [ true ↦ 0 | false ↦ k.first ]) 0) [ true ↦ ds | false ↦ record { cell = k.first; after = 0; within = elim (eqb c 1) [ true ↦ none | false ↦ some k.len ]; base = d.base + k.position } ∷ ds ])
+          → Ahead (suc c) (elim (eqb (elim p [ true ↦ 0 | false ↦ k.first ]) 0) [ true ↦ ds | false ↦ record { cell = k.first; after = 0; within = elim (eqb c 1) [ true ↦ None | false ↦ Some k.len ]; base = d.base + k.position } ∷ ds ])
       go true h = a
       go false h = go' (eqb k.first 0) refl
         where
           go' : (b : Bool) → eqb k.first 0 ≡ b
-              → Ahead (suc c) (elim b [ true ↦ ds | false ↦ record { cell = k.first; after = 0; within = elim (eqb c 1) [ true ↦ none | false ↦ some k.len ]; base = d.base + k.position } ∷ ds ])
+              → Ahead (suc c) (elim b [ true ↦ ds | false ↦ record { cell = k.first; after = 0; within = elim (eqb c 1) [ true ↦ None | false ↦ Some k.len ]; base = d.base + k.position } ∷ ds ])
           go' true e = a
           go' false e = let (x, y) = leads n c k.first h (eqb-false k.first 0 e) in record { from = x; to = y; rest = a }
 
@@ -243,7 +244,7 @@ relative_absolute q (part s l ws rest) =
 
 top_cells : (k : Cell) (kids : Trees) (rest : List ℕ) → k.kind ≡ 1 → k.position ≡ 0 → k.next ≡ 0 → k.count ≡ siblings kids → k.first ≡ unless_none kids 2
     → rest ≡ cells 2 0 kids ++ []
-    → k.kind ∷ k.id ∷ k.position ∷ k.len ∷ k.first ∷ k.count ∷ k.next ∷ rest ≡ cells 1 0 (tree (some k.id) 0 k.len kids nil)
+    → k.kind ∷ k.id ∷ k.position ∷ k.len ∷ k.first ∷ k.count ∷ k.next ∷ rest ≡ cells 1 0 (tree (Some k.id) 0 k.len kids nil)
 unfolding cells unless_none kind id_word
 top_cells k kids rest a b c d e f = rw (a, b, c, d, e, f)
 
@@ -283,7 +284,7 @@ module _ (T S : ℕ) (ws : List ℕ) (short : Short ws) (fits : S ≤ 4294967295
         sound = subst (λ u. Sound T 0 (4294967295 - S) (absolute 0 u)) (relative_absolute S kids) (sound_counted T S 4294967295 (absolute S kids) sound);
         cells_are =
             top_cells k kids (words_of ks) t.kind_one t.position_zero t.next_zero counts F.link (F.cells_are ∙ ap (λ r. cells 2 0 kids ++ r) ends)
-            ∙ ap (λ y. cells 1 0 (tree (some k.id) 0 k.len y nil)) (sym same);
+            ∙ ap (λ y. cells 1 0 (tree (Some k.id) 0 k.len y nil)) (sym same);
         words_are =
             F.words_are ∙ (ap (λ r. packed kids ++ r) F.rest.1 ∙ (append-nil (packed kids) ∙ (ap packed (sym same) ∙ packed_relative 0 (absolute 0 kids))));
       }
@@ -296,7 +297,7 @@ module _ (T S : ℕ) (ws : List ℕ) (short : Short ws) (fits : S ≤ 4294967295
       whole k ks n refl (keeps T ws n 1 0 (top_named S) [] k ks b) r
 
   -- Accepted cells and words are those of a tree that keeps the rules.
-  pub accepted_kept : (cs : List ℕ) → bad_cell T S cs ws ≡ none → Kept T (4294967295 - S) cs ws
+  pub accepted_kept : (cs : List ℕ) → bad_cell T S cs ws ≡ None → Kept T (4294967295 - S) cs ws
   unfolding bad_cell
   accepted_kept cs h =
       let (a, b) = outer (eqb (length cs) 0 || not (eqb (length cs % cell_width) 0)) _ h in
@@ -306,18 +307,18 @@ module _ (T S : ℕ) (ws : List ℕ) (short : Short ws) (fits : S ≤ 4294967295
       let some_cells : words_of (cells_of cs) ≡ [] → ⊥ = λ e. eqb-false (length cs) 0 x (ap length (sym same ∙ e)) in
       subst (λ l. Kept T (4294967295 - S) l ws) same (accepted_cells (cells_of cs) some_cells b)
     where
-      inner : (n : ℕ) → ◌≡◌ {A = Option ℕ} (elim n [ zero ↦ none | suc c ↦ some (suc c) ]) none → n ≡ 0
+      inner : (n : ℕ) → ◌≡◌ {A = Option ℕ} (elim n [ zero ↦ None | suc c ↦ Some (suc c) ]) None → n ≡ 0
       inner zero h = refl
-      inner (suc c) h = absurd (some-ne-none (suc c) h)
+      inner (suc c) h = absurd (none-some (suc c) (sym h))
 
-      outer : (b : Bool) (n : ℕ) → ◌≡◌ {A = Option ℕ} (elim b [ true ↦ some 0 | false ↦ elim n [ zero ↦ none | suc c ↦ some (suc c) ] ]) none → (b ≡ false) × (n ≡ 0)
-      outer true n h = absurd (some-ne-none 0 h)
+      outer : (b : Bool) (n : ℕ) → ◌≡◌ {A = Option ℕ} (elim b [ true ↦ Some 0 | false ↦ elim n [ zero ↦ None | suc c ↦ Some (suc c) ] ]) None → (b ≡ false) × (n ≡ 0)
+      outer true n h = absurd (none-some 0 (sym h))
       outer false n h = (refl, inner n h)
 
   -- Accepted cells are the cells of the tree that they are read as, and its words are the packed words.
-  pub accepted_decode : (cs : List ℕ) → bad_cell T S cs ws ≡ none → (cells 1 0 (decode ws cs) ≡ cs) × (packed (decode ws cs) ≡ ws)
+  pub accepted_decode : (cs : List ℕ) → bad_cell T S cs ws ≡ None → (cells 1 0 (decode ws cs) ≡ cs) × (packed (decode ws cs) ≡ ws)
   accepted_decode cs h =
       let k = accepted_kept cs h in
       let e = kept_decode T (4294967295 - S) cs ws k in
-      let t = tree (some k.top) 0 k.length k.kids nil in
-      (ap (cells 1 0) e ∙ sym k.cells_are, ap packed e ∙ (packed_relative 0 t ∙ (whole_packed (some k.top) k.length k.kids ∙ sym k.words_are)))
+      let t = tree (Some k.top) 0 k.length k.kids nil in
+      (ap (cells 1 0) e ∙ sym k.cells_are, ap packed e ∙ (packed_relative 0 t ∙ (whole_packed (Some k.top) k.length k.kids ∙ sym k.words_are)))

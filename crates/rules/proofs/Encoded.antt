@@ -2,7 +2,7 @@
 use mathlib.Core.Path.{◌≡◌, refl, sym, ap, ap₂, subst, ◌∙◌}
 use mathlib.Core.Bool.{Bool, true, false, ◌&&◌, ◌||◌, not}
 use mathlib.Core.List.{List, [], ◌∷◌, append-nil}
-use mathlib.Core.Option.{Option, none, some}
+use Rattle.std.specs.Prelude.{Option, None, Some}
 use Prim.Native.Nat.{ℕ, zero, suc, ◌+◌, ◌*◌, ◌%◌, ◌≤◌, ◌<◌}
 use native.Mathlib.Omega.{arith}
 use native.Mathlib.Nat.{le_refl}
@@ -60,11 +60,11 @@ module _ (T : ℕ) (types : T ≤ 65536) (ws : List ℕ) (n S hi : ℕ) (fits : 
       stray = top_stray;
     }
 
-    top_names : first_named 1 (top_named S) top_cell (next_named (top_named S) top_cell []) ≡ due (unless_none kids 2) 0 none (S + 0) []
+    top_names : first_named 1 (top_named S) top_cell (next_named (top_named S) top_cell []) ≡ due (unless_none kids 2) 0 None (S + 0) []
     unfolding first_named next_named first_child top_named due
     top_names = refl
 
-    good_top : Good T types ws n S hi fits kids 2 0 0 none 0 [] []
+    good_top : Good T types ws n S hi fits kids 2 0 0 None 0 [] []
     unfolding upper
     good_top = record {
       two = omega arith;
@@ -91,21 +91,21 @@ module _ (T : ℕ) (types : T ≤ 65536) (ws : List ℕ) (n S hi : ℕ) (fits : 
     lowest_none =
         lowest_step T types ws n S hi fits 1 0 (top_named S) [] top_cell inside_cells top_keeps
         ∙ (ap₂ (λ x y. lowest_from T ws n 2 x y inside_cells) top_end top_names
-        ∙ (ap (lowest_from T ws n 2 0 (due (unless_none kids 2) 0 none (S + 0) [])) (sym (append-nil inside_cells))
-        ∙ (runs T types ws n S hi fits kids 2 0 0 none 0 [] [] good_top [] no_part_after ∙ read_all)))
+        ∙ (ap (lowest_from T ws n 2 0 (due (unless_none kids 2) 0 None (S + 0) [])) (sym (append-nil inside_cells))
+        ∙ (runs T types ws n S hi fits kids 2 0 0 None 0 [] [] good_top [] no_part_after ∙ read_all)))
 
 listed_top : (top len : ℕ) (kids : Trees)
-    → cells 1 0 (tree (some top) 0 len kids nil) ≡ words_of (record { kind = 1; id = top; position = 0; len = len; first = unless_none kids 2; count = siblings kids; next = 0 } ∷ listed 2 0 kids)
+    → cells 1 0 (tree (Some top) 0 len kids nil) ≡ words_of (record { kind = 1; id = top; position = 0; len = len; first = unless_none kids 2; count = siblings kids; next = 0 } ∷ listed 2 0 kids)
 unfolding cells words_of kind id_word unless_none
 listed_top top len kids = ap (λ r. 1 ∷ top ∷ 0 ∷ len ∷ unless_none kids 2 ∷ siblings kids ∷ 0 ∷ r) (append-nil (cells 2 0 kids) ∙ sym (words_listed 2 0 kids))
 
-relative_top : (top len : ℕ) (kids : Trees) → relative 0 (tree (some top) 0 len kids nil) ≡ tree (some top) 0 len (relative 0 kids) nil
+relative_top : (top len : ℕ) (kids : Trees) → relative 0 (tree (Some top) 0 len kids nil) ≡ tree (Some top) 0 len (relative 0 kids) nil
 unfolding relative
 relative_top top len kids = refl
 
 -- no cell of a list breaks a rule
 none_lowest : (T S : ℕ) (ws : List ℕ) (k : Cell) (ks : List Cell) → lowest_from T ws (length (k ∷ ks)) 1 0 (top_named S ∷ []) (k ∷ ks) ≡ 0
-    → bad_cell T S (words_of (k ∷ ks)) ws ≡ none
+    → bad_cell T S (words_of (k ∷ ks)) ws ≡ None
 unfolding bad_cell
 none_lowest T S ws k ks h =
     let cs = words_of (k ∷ ks) in
@@ -117,11 +117,11 @@ none_lowest T S ws k ks h =
     answer (eqb (length cs) 0) (eqb (length cs % cell_width) 0) (lowest_from T ws (length (cells_of cs)) 1 0 (top_named S ∷ []) (cells_of cs)) a b e
   where
     answer : (x y : Bool) (n : ℕ) → x ≡ false → y ≡ true → n ≡ 0
-        → ◌≡◌ {A = Option ℕ} (elim (x || not y) [ true ↦ some 0 | false ↦ elim n [ zero ↦ none | suc c ↦ some (suc c) ] ]) none
+        → ◌≡◌ {A = Option ℕ} (elim (x || not y) [ true ↦ Some 0 | false ↦ elim n [ zero ↦ None | suc c ↦ Some (suc c) ] ]) None
     answer x y n hx hy hn = rw (hx, hy, hn)
 
 -- Cells and words of a tree that keeps the rules are accepted.
-pub kept_accepted : (T S hi : ℕ) (cs ws : List ℕ) → T ≤ 65536 → S + hi ≤ 4294967295 → Kept T hi cs ws → bad_cell T S cs ws ≡ none
+pub kept_accepted : (T S hi : ℕ) (cs ws : List ℕ) → T ≤ 65536 → S + hi ≤ 4294967295 → Kept T hi cs ws → bad_cell T S cs ws ≡ None
 kept_accepted T S hi cs ws types fits k =
     let top = k.top in
     let len = k.length in
@@ -134,5 +134,5 @@ kept_accepted T S hi cs ws types fits k =
     ap suc (length_listed 2 0 inner) in
     let all =
     lowest_none T types ws (length (top_cell T types ws (suc (nodes inner)) S hi fits top len inner k.known sound words refl ∷ listed 2 0 inner)) S hi fits top len inner k.known sound words size in
-    subst (λ l. bad_cell T S l ws ≡ none) (sym (k.cells_are ∙ (ap (cells 1 0) (relative_top top len k.kids) ∙ listed_top top len inner)))
+    subst (λ l. bad_cell T S l ws ≡ None) (sym (k.cells_are ∙ (ap (cells 1 0) (relative_top top len k.kids) ∙ listed_top top len inner)))
     (none_lowest T S ws _ (listed 2 0 inner) all)

@@ -3,7 +3,7 @@
 use mathlib.Core.Path.{◌≡◌, refl, sym, ap, ap₂, subst, ◌∙◌}
 use mathlib.Core.Bool.{Bool, true, false, ◌||◌, not}
 use mathlib.Core.List.{List, [], ◌∷◌, ◌++◌, append_assoc}
-use mathlib.Core.Option.{Option, none, some}
+use Rattle.std.specs.Prelude.{Option, None, Some}
 use Prim.Native.Nat.{ℕ, suc, ◌+◌, ◌-◌, ◌≤◌, ◌<◌}
 use native.Mathlib.Omega.{arith}
 use native.Mathlib.Nat.{add-zero}
@@ -21,7 +21,7 @@ use Rattle.tree.specs.Well.{Known, Parts, Sound}
 module _ (T : ℕ) (ws : List ℕ) (n : ℕ) where
   -- absolute ends of a cell that d names
   pub upto : Named → ℕ
-  upto d = elim d.within [ none ↦ 4294967295 | some l ↦ d.base + l ]
+  upto d = elim d.within [ None ↦ 4294967295 | Some l ↦ d.base + l ]
 
   pub ends_upto : (c : ℕ) (d : Named) (k : Cell) → (c ≡ 1 → ⊥) → inside_broken d k ≡ false → end_broken c d k ≡ false
       → d.base + (k.position + k.len) ≤ upto d
@@ -31,10 +31,10 @@ module _ (T : ℕ) (ws : List ℕ) (n : ℕ) where
       last : d.base + (k.position + k.len) ≤ 4294967295
       last = ltb-false 4294967295 (d.base + (k.position + k.len)) (rw (ne_eqb c 1 ne) at e)
 
-      go : (o : Option ℕ) → elim o [ none ↦ false | some l ↦ ltb l (k.position + k.len) ] ≡ false
-          → d.base + (k.position + k.len) ≤ elim o [ none ↦ 4294967295 | some l ↦ d.base + l ]
-      go none h = last
-      go (some l) h = omega (arith, ltb-false l (k.position + k.len) h)
+      go : (o : Option ℕ) → elim o [ None ↦ false | Some l ↦ ltb l (k.position + k.len) ] ≡ false
+          → d.base + (k.position + k.len) ≤ elim o [ None ↦ 4294967295 | Some l ↦ d.base + l ]
+      go None h = last
+      go (Some l) h = omega (arith, ltb-false l (k.position + k.len) h)
 
   -- Trees from cell c on, which the link x begins; `Rest` is what follows.
   pub record Grown (c w base lo hi x : ℕ) (cs lens : List ℕ) (Rest : ℕ → ℕ → List ℕ → List ℕ → Type 0) : Type 0 where
@@ -88,10 +88,10 @@ module _ (T : ℕ) (ws : List ℕ) (n : ℕ) where
     where
       Shape : ℕ → Type 0
       Shape y =
-          Laid (elim (eqb y 0) [ true ↦ ds | false ↦ record { cell = k.first; after = 0; within = elim (eqb c 1) [ true ↦ none | false ↦ some k.len ]; base = d.base + k.position } ∷ ds ]) (suc c) w cs lens
+          Laid (elim (eqb y 0) [ true ↦ ds | false ↦ record { cell = k.first; after = 0; within = elim (eqb c 1) [ true ↦ None | false ↦ Some k.len ]; base = d.base + k.position } ∷ ds ]) (suc c) w cs lens
 
       go : (b : Bool) → eqb k.first 0 ≡ b → (o : Bool) → hi ≡ elim o [ true ↦ 4294967295 | false ↦ d.base + k.position + k.len ]
-          → Laid (elim b [ true ↦ ds | false ↦ record { cell = k.first; after = 0; within = elim o [ true ↦ none | false ↦ some k.len ]; base = d.base + k.position } ∷ ds ]) (suc c) w cs lens
+          → Laid (elim b [ true ↦ ds | false ↦ record { cell = k.first; after = 0; within = elim o [ true ↦ None | false ↦ Some k.len ]; base = d.base + k.position } ∷ ds ]) (suc c) w cs lens
           → Grown (suc c) w (d.base + k.position) (d.base + k.position + 0) hi k.first cs lens (Laid ds)
       go true e o q r = grown_nil (suc c) w (d.base + k.position) (d.base + k.position + 0) hi k.first cs lens (Laid ds) (eqb-true k.first 0 e) le r
       go false e true q r = rw q r
@@ -109,8 +109,8 @@ module _ (T : ℕ) (ws : List ℕ) (n : ℕ) where
   typed k a b p = go (eqb k.kind 1) refl (rw p at (not-false (eqb k.kind 1 || (eqb k.kind 3 || is_part k)) a)) b
     where
       go : (x : Bool) → eqb k.kind 1 ≡ x → x || (eqb k.kind 3 || false) ≡ true → elim x [ true ↦ leb T k.id | false ↦ not (eqb k.id 0) ] ≡ false → Typed k
-      go true e u v = record { type = some k.id; kind_is = eqb-true k.kind 1 e; id_is = refl; known = leb-false T k.id v }
-      go false e u v = record { type = none; kind_is = eqb-true k.kind 3 (three (eqb k.kind 3) u); id_is = eqb-true k.id 0 (not-false _ v); known = tt }
+      go true e u v = record { type = Some k.id; kind_is = eqb-true k.kind 1 e; id_is = refl; known = leb-false T k.id v }
+      go false e u v = record { type = None; kind_is = eqb-true k.kind 3 (three (eqb k.kind 3) u); id_is = eqb-true k.id 0 (not-false _ v); known = tt }
         where
           three : (y : Bool) → y || false ≡ true → y ≡ true
           three true h = refl

@@ -5,7 +5,7 @@
 use mathlib.Core.Path.{◌≡◌, refl, sym, ap, ◌∙◌}
 use mathlib.Core.Bool.{Bool, true, false, cond}
 use mathlib.Core.List.{List, [], ◌∷◌, ◌++◌}
-use mathlib.Core.Option.{Option, none, some}
+use Rattle.std.specs.Prelude.{Option, None, Some}
 use Prim.Native.Nat.{ℕ, suc, ◌+◌, ◌*◌, ◌/◌, ◌%◌, ◌≤◌}
 use native.Mathlib.Omega.{arith}
 use borrow.Author.Tests.{ltb-false}
@@ -55,14 +55,14 @@ passed true number place next h = absurd (omega arith)
 passed false number place next h = (refl, refl, h)
 
 found_none : (found : Option ℕ) (next : Outcome) → number_of (unless_found 15 (λ c. c) found next) ≡ 0
-    → (found ≡ none) × (unless_found 15 (λ c. c) found next ≡ next) × (number_of next ≡ 0)
-found_none none next h = (refl, refl, h)
-found_none (some c) next h = absurd (omega arith)
+    → (found ≡ None) × (unless_found 15 (λ c. c) found next ≡ next) × (number_of next ≡ 0)
+found_none None next h = (refl, refl, h)
+found_none (Some c) next h = absurd (omega arith)
 
 -- the tests that all tree calls have
 record Passed (T S : ℕ) (cs ws : List ℕ) (work : ℕ) (next : Outcome) : Type 0 where
   types : T ≤ 65536
-  kept : bad_cell T S cs ws ≡ none
+  kept : bad_cell T S cs ws ≡ None
   same : unless_bad T S cs ws work next ≡ next
   taken : number_of next ≡ 0
 
@@ -85,8 +85,8 @@ whole_line F d i s e = go (ltb i F)
 
 whole_node : (F d : ℕ) (t : Option ℕ) (s e : ℕ) → length (node_line F d t s e) % line_width ≡ 0
 unfolding node_line
-whole_node F d none s e = refl
-whole_node F d (some i) s e = whole_line F d i s e
+whole_node F d None s e = refl
+whole_node F d (Some i) s e = whole_line F d i s e
 
 whole_listing : (F d : ℕ) (ts : Trees) → length (listing F d ts) % line_width ≡ 0
 unfolding listing
@@ -111,7 +111,7 @@ whole_lines F S cs ws = omega (arith, whole_listing F 0 (kids_of (materialise (a
 -- an accepted listing counts and writes the lines of its cells and words
 record Lists (T F S : ℕ) (cs ws : List ℕ) (work : ℕ) (out : List ℕ) : Type 0 where
   types : T ≤ 65536
-  kept : bad_cell T S cs ws ≡ none
+  kept : bad_cell T S cs ws ≡ None
   result : list_call T F S cs ws work out ≡ record {
     outcome = accepted (length (list_cells F S cs ws) / line_width ∷ []);
     outputs = front (list_cells F S cs ws) out ∷ [];

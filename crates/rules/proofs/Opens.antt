@@ -4,7 +4,7 @@ use mathlib.Core.Path.{◌≡◌, refl, sym, ap, subst, ◌∙◌}
 use mathlib.Core.Bool.{Bool, true, false, ◌||◌, true≢false}
 use mathlib.Core.List.{List, [], ◌∷◌}
 use mathlib.Core.Logic.{◌⊎◌, inl, inr}
-use mathlib.Core.Option.{Option, none, some}
+use Rattle.std.specs.Prelude.{Option, None, Some}
 use Prim.Native.Nat.{ℕ, suc, ◌+◌, ◌≤◌, ◌<◌}
 use native.Mathlib.Omega.{arith}
 use native.Mathlib.Decide.{ℕ_discrete}
@@ -40,7 +40,7 @@ In b y (o ∷ os) = ((o.by_next ≡ b) × (o.source ≡ y)) ⊎ In b y os
 module _ (ks : List Cell) (S : ℕ) where
   -- the length that children of p end within
   unfoldable pub room_of : ℕ → Option ℕ
-  room_of p = elim (eqb p 1) [ true ↦ none | false ↦ some (cell ks p).len ]
+  room_of p = elim (eqb p 1) [ true ↦ None | false ↦ Some (cell ks p).len ]
 
   pub record ByFirst (c : ℕ) (o : Open) : Type 0 where
     pub kind_is : o.by_next ≡ false

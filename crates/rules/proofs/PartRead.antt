@@ -3,7 +3,7 @@
 use mathlib.Core.Path.{◌≡◌, refl, sym, ap, subst, ◌∙◌}
 use mathlib.Core.Bool.{Bool, true, false, true≢false}
 use mathlib.Core.List.{List, [], ◌∷◌, ◌++◌}
-use mathlib.Core.Option.{some}
+use Rattle.std.specs.Prelude.{Some}
 use Prim.Native.Nat.{ℕ, zero, suc, ◌+◌, ◌-◌, ◌*◌, ◌/◌, ◌%◌, ◌≤◌, ◌<◌}
 use native.Mathlib.Omega.{arith}
 use native.Mathlib.Nat.{add-zero}
@@ -101,7 +101,7 @@ module _ (T p l n : ℕ) where
   -- a record before the trees ts of those after it
   lies_entry : (off lo i s e x : ℕ) (outer : List Around) (ts : Trees) → off % 4 ≡ 0 → i < T → lo ≤ s → s ≤ e → off + 4 ≤ x → x % 4 ≡ 0 → Nest x e outer
       → Lies (off + 4) s (record { stop = x; end = e } ∷ outer) ts
-      → Lies off lo outer (tree (some i) (p + s) (e - s) (within ts ((x - (off + 4)) / 4)) (beyond ts ((x - (off + 4)) / 4)))
+      → Lies off lo outer (tree (Some i) (p + s) (e - s) (within ts ((x - (off + 4)) / 4)) (beyond ts ((x - (off + 4)) / 4)))
   unfolding within beyond nodes
   lies_entry off lo i s e x [] ts z k a o f m h w =
       let end : p + s + (e - s) ≡ p + e = omega arith in
@@ -154,7 +154,7 @@ module _ (T p l n : ℕ) where
       }
 
   spell_entry : (off i s e x : ℕ) (ts : Trees) (ws : List ℕ) → s ≤ e → off + 4 + 4 * nodes (within ts ((x - (off + 4)) / 4)) ≡ x → Entries ts → spelled p (off + 4) ts ≡ ws
-      → spelled p off (tree (some i) (p + s) (e - s) (within ts ((x - (off + 4)) / 4)) (beyond ts ((x - (off + 4)) / 4))) ≡ i ∷ s ∷ e ∷ x ∷ ws
+      → spelled p off (tree (Some i) (p + s) (e - s) (within ts ((x - (off + 4)) / 4)) (beyond ts ((x - (off + 4)) / 4))) ≡ i ∷ s ∷ e ∷ x ∷ ws
   unfolding spelled id_word
   spell_entry off i s e x ts ws o d en q =
       let k = (x - (off + 4)) / 4 in

@@ -2,7 +2,7 @@
 use mathlib.Core.Path.{◌≡◌, refl}
 use mathlib.Core.Bool.{Bool, true, false}
 use mathlib.Core.List.{List, [], ◌∷◌, ◌++◌, append_assoc}
-use mathlib.Core.Option.{none, some}
+use Rattle.std.specs.Prelude.{None, Some}
 use Prim.Native.Nat.{ℕ, zero, suc, ◌+◌, ◌-◌, ◌*◌, ◌/◌}
 use native.Mathlib.Omega.{arith}
 use native.Mathlib.Nat.{add-zero}
@@ -32,25 +32,25 @@ open_ends_stops off (a ∷ outer) = go (leb a.stop off) (open_ends_stops off out
 -- trees of records: every one has an id, and there are no parts
 abbrev pub Entries : Trees → Type 0
 Entries nil = Unit {0}
-Entries (tree none s l kids rest) = ⊥
-Entries (tree (some i) s l kids rest) = Entries kids × Entries rest
+Entries (tree None s l kids rest) = ⊥
+Entries (tree (Some i) s l kids rest) = Entries kids × Entries rest
 Entries (part s l ws rest) = ⊥
 
 pub entries_within : (ts : Trees) (k : ℕ) → Entries ts → Entries (within ts k)
 unfolding within
 entries_within nil k h = tt
-entries_within (tree none s l kids rest) zero h = tt
-entries_within (tree none s l kids rest) (suc k) h = h
-entries_within (tree (some i) s l kids rest) zero h = tt
-entries_within (tree (some i) s l kids rest) (suc k) h = (h.0, entries_within rest (k - nodes kids) h.1)
+entries_within (tree None s l kids rest) zero h = tt
+entries_within (tree None s l kids rest) (suc k) h = h
+entries_within (tree (Some i) s l kids rest) zero h = tt
+entries_within (tree (Some i) s l kids rest) (suc k) h = (h.0, entries_within rest (k - nodes kids) h.1)
 entries_within (part s l ws rest) k h = absurd h
 
 entries_beyond : (ts : Trees) (k : ℕ) → Entries ts → Entries (beyond ts k)
 unfolding beyond
 entries_beyond nil k h = tt
-entries_beyond (tree none s l kids rest) k h = absurd h
-entries_beyond (tree (some i) s l kids rest) zero h = h
-entries_beyond (tree (some i) s l kids rest) (suc k) h = entries_beyond rest (k - nodes kids) h.1
+entries_beyond (tree None s l kids rest) k h = absurd h
+entries_beyond (tree (Some i) s l kids rest) zero h = h
+entries_beyond (tree (Some i) s l kids rest) (suc k) h = entries_beyond rest (k - nodes kids) h.1
 entries_beyond (part s l ws rest) k h = absurd h
 
 pub entries_unpack : (p off : ℕ) (ws : List ℕ) → Entries (unpack p off ws)
@@ -68,8 +68,8 @@ entries_unpack p off (i ∷ s ∷ e ∷ n ∷ ws) =
 pub spelled-⊕ : (p off : ℕ) (ts us : Trees) → Entries ts → spelled p off (ts ⊕ us) ≡ spelled p off ts ++ spelled p (off + 4 * nodes ts) us
 unfolding spelled ◌⊕◌ nodes
 spelled-⊕ p off nil us a = rw add-zero
-spelled-⊕ p off (tree none s l kids rest) us a = absurd a
-spelled-⊕ p off (tree (some i) s l kids rest) us a =
+spelled-⊕ p off (tree None s l kids rest) us a = absurd a
+spelled-⊕ p off (tree (Some i) s l kids rest) us a =
     let n = off + 4 + 4 * nodes kids in
     let q : off + 4 * suc (nodes kids + nodes rest) ≡ n + 4 * nodes rest = omega arith in
     rw (spelled-⊕ p n rest us a.1, q, append_assoc (spelled p (off + 4) kids) (spelled p n rest) (spelled p (n + 4 * nodes rest) us))
@@ -78,8 +78,8 @@ spelled-⊕ p off (part s l ws rest) us a = absurd a
 pub length_spelled : (p off : ℕ) (ts : Trees) → Entries ts → length (spelled p off ts) ≡ 4 * nodes ts
 unfolding spelled nodes
 length_spelled p off nil a = refl
-length_spelled p off (tree none s l kids rest) a = absurd a
-length_spelled p off (tree (some i) s l kids rest) a =
+length_spelled p off (tree None s l kids rest) a = absurd a
+length_spelled p off (tree (Some i) s l kids rest) a =
     let n = off + 4 + 4 * nodes kids in
     omega (arith, length-append (spelled p (off + 4) kids) (spelled p n rest), length_spelled p (off + 4) kids a.0, length_spelled p n rest a.1)
 length_spelled p off (part s l ws rest) a = absurd a

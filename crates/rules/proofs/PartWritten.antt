@@ -3,7 +3,7 @@
 use mathlib.Core.Path.{◌≡◌, refl, sym, ap, subst, ◌∙◌}
 use mathlib.Core.Bool.{true}
 use mathlib.Core.List.{List, [], ◌∷◌, ◌++◌, append_assoc, append-nil}
-use mathlib.Core.Option.{none, some}
+use Rattle.std.specs.Prelude.{None, Some}
 use Prim.Native.Nat.{ℕ, suc, ◌+◌, ◌-◌, ◌*◌, ◌≤◌}
 use native.Mathlib.Omega.{arith}
 use native.Mathlib.Nat.{add-zero}
@@ -65,7 +65,7 @@ module _ (T p l : ℕ) where
   ranges_run_tree : (off lo i s k : ℕ) (kids rest : Trees) (outer : List Around) → To (off + 4 * suc (nodes kids + nodes rest)) outer
       → p + lo ≤ s → s + k ≤ p + bound l outer
       → RangesRun (off + 4) (s - p) (record { stop = off + 4 + 4 * nodes kids; end = (s + k) - p } ∷ outer) kids
-      → RangesRun (off + 4 + 4 * nodes kids) ((s + k) - p) outer rest → RangesRun off lo outer (tree (some i) s k kids rest)
+      → RangesRun (off + 4 + 4 * nodes kids) ((s + k) - p) outer rest → RangesRun off lo outer (tree (Some i) s k kids rest)
   unfolding spelled nodes fin id_word
   ranges_run_tree off lo i s k kids rest outer t a b f g more =
       let x = off + 4 + 4 * nodes kids in
@@ -81,7 +81,7 @@ module _ (T p l : ℕ) where
   unfolding spelled nodes fin
   run_nil off lo outer = λ more. rw add-zero
 
-  nodes_tree : (i s k : ℕ) (kids rest : Trees) → nodes (tree (some i) s k kids rest) ≡ suc (nodes kids + nodes rest)
+  nodes_tree : (i s k : ℕ) (kids rest : Trees) → nodes (tree (Some i) s k kids rest) ≡ suc (nodes kids + nodes rest)
   unfolding nodes
   nodes_tree i s k kids rest = refl
 
@@ -91,8 +91,8 @@ module _ (T p l : ℕ) where
 
   part_run : (ts : Trees) (off lo : ℕ) (outer : List Around) → Entries ts → To (off + 4 * nodes ts) outer → Plain T (p + lo) (p + bound l outer) ts → RangesRun off lo outer ts
   part_run nil off lo outer en t w = run_nil off lo outer
-  part_run (tree none s k kids rest) off lo outer en t w = absurd en
-  part_run (tree (some i) s k kids rest) off lo outer en t w =
+  part_run (tree None s k kids rest) off lo outer en t w = absurd en
+  part_run (tree (Some i) s k kids rest) off lo outer en t w =
       let x = off + 4 + 4 * nodes kids in
       let q = nodes_tree i s k kids rest in
       let high = well-≤ T (λ s l ws. ⊥) (s + k) (p + bound l outer) rest w.rest in

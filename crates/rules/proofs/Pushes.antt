@@ -3,7 +3,7 @@ use mathlib.Core.Path.{◌≡◌, refl, sym, ap, subst, ◌∙◌}
 use mathlib.Core.Bool.{Bool, true, false, true≢false}
 use mathlib.Core.List.{List, ◌∷◌}
 use mathlib.Core.Logic.{◌⊎◌, inl, inr}
-use mathlib.Core.Option.{none, some}
+use Rattle.std.specs.Prelude.{None, Some}
 use Prim.Native.Nat.{ℕ, suc, ◌+◌, ◌≤◌, ◌<◌}
 use native.Mathlib.Omega.{arith}
 use native.Mathlib.Decide.{ℕ_discrete}
@@ -88,7 +88,7 @@ module _ (ks : List Cell) (S : ℕ) where
                   record {
                     cell = (cell ks c).first;
                     after = 0;
-                    within = elim (eqb c 1) [ true ↦ none | false ↦ some (cell ks c).len ];
+                    within = elim (eqb c 1) [ true ↦ None | false ↦ Some (cell ks c).len ];
                     base = d.base + (cell ks c).position;
                   } ∷ links before
             ])

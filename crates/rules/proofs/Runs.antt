@@ -2,7 +2,7 @@
 use mathlib.Core.Path.{◌≡◌, refl, sym, ap, ap₂, subst, ◌∙◌}
 use mathlib.Core.Bool.{Bool, true, false}
 use mathlib.Core.List.{List, [], ◌∷◌, ◌++◌, append_assoc}
-use mathlib.Core.Option.{Option, none, some}
+use Rattle.std.specs.Prelude.{Option, None, Some}
 use Prim.Native.Nat.{ℕ, suc, ◌+◌, ◌≤◌, ◌<◌}
 use native.Mathlib.Omega.{arith}
 use native.Mathlib.Nat.{add-zero}
@@ -51,7 +51,7 @@ module _ (T : ℕ) (types : T ≤ 65536) (ws : List ℕ) (n S hi : ℕ) (fits : 
   unfolding next_named due
   next_due d k ds = refl
 
-  first_due : (c : ℕ) (d : Named) (k : Cell) (ds : List Named) → is_part k ≡ false → (c ≡ 1 → ⊥) → first_named c d k ds ≡ due k.first 0 (some k.len) (d.base + k.position) ds
+  first_due : (c : ℕ) (d : Named) (k : Cell) (ds : List Named) → is_part k ≡ false → (c ≡ 1 → ⊥) → first_named c d k ds ≡ due k.first 0 (Some k.len) (d.base + k.position) ds
   unfolding first_named due
   first_due c d k ds p ne = ap₂ Shape (child_tree k p) (ne_eqb c 1 ne)
     where
@@ -59,17 +59,17 @@ module _ (T : ℕ) (types : T ≤ 65536) (ws : List ℕ) (n S hi : ℕ) (fits : 
       Shape y o =
           elim (eqb y 0) [
             | true ↦ ds
-            | false ↦ record { cell = k.first; after = 0; within = elim o [ true ↦ none | false ↦ some k.len ]; base = d.base + k.position } ∷ ds
+            | false ↦ record { cell = k.first; after = 0; within = elim o [ true ↦ None | false ↦ Some k.len ]; base = d.base + k.position } ∷ ds
           ]
 
   -- a cell that keeps the rules is passed over
   pass_tree : (c w : ℕ) (d : Named) (ds : List Named) (k : Cell) (ks : List Cell) → is_part k ≡ false → (c ≡ 1 → ⊥) → Keeps T ws n c w d ds k ks
       → lowest_from T ws n c w (d ∷ ds) (k ∷ ks)
-      ≡ lowest_from T ws n (suc c) w (due k.first 0 (some k.len) (d.base + k.position) (due k.next (k.position + k.len) d.within d.base ds)) ks
+      ≡ lowest_from T ws n (suc c) w (due k.first 0 (Some k.len) (d.base + k.position) (due k.next (k.position + k.len) d.within d.base ds)) ks
   pass_tree c w d ds k ks p ne h =
       lowest_step c w d ds k ks h
       ∙ ap₂ (λ x y. lowest_from T ws n (suc c) x y ks) (end_tree w k p)
-      (first_due c d k (next_named d k ds) p ne ∙ ap (due k.first 0 (some k.len) (d.base + k.position)) (next_due d k ds))
+      (first_due c d k (next_named d k ds) p ne ∙ ap (due k.first 0 (Some k.len) (d.base + k.position)) (next_due d k ds))
 
   pass_part : (c w : ℕ) (d : Named) (ds : List Named) (k : Cell) (ks : List Cell) → is_part k ≡ true → Keeps T ws n c w d ds k ks
       → lowest_from T ws n c w (d ∷ ds) (k ∷ ks)
@@ -115,7 +115,7 @@ module _ (T : ℕ) (types : T ≤ 65536) (ws : List ℕ) (n S hi : ℕ) (fits : 
       unfolding packed
       words_kids = g.words ∙ append_assoc (packed kids) (packed rest) more
 
-      good_kids : Good kids (suc c) w 0 (some l) (b + s) ds' (packed rest ++ more)
+      good_kids : Good kids (suc c) w 0 (Some l) (b + s) ds' (packed rest ++ more)
       unfolding absolute upper
       good_kids =
           let e : b + s + 0 ≡ b + s = add-zero (b + s) in
@@ -164,7 +164,7 @@ module _ (T : ℕ) (types : T ≤ 65536) (ws : List ℕ) (n S hi : ℕ) (fits : 
           tree_kept T types ws n S hi fits c w b here ds t s l kids rest ((inner_cells ++ outer_cells) ++ ks) g.two refl g.apart g.room refl
           (omega (arith, g.sound.starts)) low g.most g.sound.known (counted ks)
 
-      runs_tree : Runs kids (suc c) w 0 (some l) (b + s) ds' → Runs rest c' w' (s + l) within b ds → Runs (tree t s l kids rest) c w after within b ds
+      runs_tree : Runs kids (suc c) w 0 (Some l) (b + s) ds' → Runs rest c' w' (s + l) within b ds → Runs (tree t s l kids rest) c w after within b ds
       unfolding listed unless_none nodes
       runs_tree f h ks stray =
           let base : S + b + s ≡ S + (b + s) = omega arith in
@@ -177,7 +177,7 @@ module _ (T : ℕ) (types : T ≤ 65536) (ws : List ℕ) (n S hi : ℕ) (fits : 
           let wide : w' + length (packed rest) ≡ w + length (packed (tree t s l kids rest)) = omega (arith, sizes) in
           ap (λ y. lowest_from T ws n c w y (k ∷ ((inner_cells ++ outer_cells) ++ ks))) (due_some c after within (S + b) ds (omega (arith, g.two)))
           ∙ (pass_tree c w here ds k ((inner_cells ++ outer_cells) ++ ks) (tree_kind T types ws n S hi fits c w b here ds t s l kids rest ((inner_cells ++ outer_cells) ++ ks)) (λ e. omega (arith, g.two)) (kept_here ks)
-          ∙ (ap₂ (λ x y. lowest_from T ws n (suc c) w (due (unless_none kids (suc c)) 0 (some l) x ds') y) base (append_assoc inner_cells outer_cells ks)
+          ∙ (ap₂ (λ x y. lowest_from T ws n (suc c) w (due (unless_none kids (suc c)) 0 (Some l) x ds') y) base (append_assoc inner_cells outer_cells ks)
           ∙ (f (outer_cells ++ ks) stray_kids
           ∙ (ap (λ y. lowest_from T ws n y w' ds' (outer_cells ++ ks)) q
           ∙ (h ks stray_rest ∙ ap₂ (λ x y. lowest_from T ws n x y ds ks) long wide)))))
@@ -245,7 +245,7 @@ module _ (T : ℕ) (types : T ≤ 65536) (ws : List ℕ) (n S hi : ℕ) (fits : 
   runs nil c w after within b ds more g = runs_nil c w after within b ds
   runs (tree t s l kids rest) c w after within b ds more g =
       runs_tree c w after within b ds more t s l kids rest g
-      (runs kids (suc c) w 0 (some l) (b + s) (due (unless_none rest (c + suc (nodes kids))) (s + l) within (S + b) ds) (packed rest ++ more) (good_kids c w after within b ds more t s l kids rest g))
+      (runs kids (suc c) w 0 (Some l) (b + s) (due (unless_none rest (c + suc (nodes kids))) (s + l) within (S + b) ds) (packed rest ++ more) (good_kids c w after within b ds more t s l kids rest g))
       (runs rest (c + suc (nodes kids)) (w + length (packed kids)) (s + l) within b ds more (good_rest c w after within b ds more t s l kids rest g))
   runs (part s l us rest) c w after within b ds more g =
       runs_part c w after within b ds more s l us rest g (runs rest (suc c) (w + length us) (s + l) within b ds more (good_after c w after within b ds more s l us rest g))

@@ -4,7 +4,7 @@ use mathlib.Core.Path.{◌≡◌, refl, sym, ap, subst, ◌∙◌}
 use mathlib.Core.Bool.{Bool, true, false, ◌||◌, not, true≢false}
 use mathlib.Core.List.{List, [], ◌∷◌}
 use mathlib.Core.Logic.{◌↔◌, ◌⊎◌, inl, inr}
-use mathlib.Core.Option.{Option, none, some}
+use Rattle.std.specs.Prelude.{Option, None, Some}
 use Prim.Native.Nat.{ℕ, zero, suc, ◌+◌, ◌-◌, ◌%◌, ◌≤◌, ◌<◌}
 use native.Mathlib.Omega.{arith}
 use native.Mathlib.Decide.{dec_lt, ℕ_discrete}
@@ -249,16 +249,16 @@ module _ (T S : ℕ) (cs ws : List ℕ) where
 
   -- what the one-pass form answers
   record Told (o : Option ℕ) : Type 0 where
-    none_at : o ≡ none → (c : ℕ) → Place T S cs ws c → ⊥
-    some_at : (c : ℕ) → o ≡ some c → Place T S cs ws c
+    none_at : o ≡ None → (c : ℕ) → Place T S cs ws c → ⊥
+    some_at : (c : ℕ) → o ≡ Some c → Place T S cs ws c
 
-  some_not_none : (c : ℕ) → ◌≡◌ {A = Option ℕ} (some c) none → ⊥
+  some_not_none : (c : ℕ) → ◌≡◌ {A = Option ℕ} (Some c) None → ⊥
   some_not_none c h = let z : ◌≡◌ {A = ℕ} 0 1 = cc in omega arith
 
-  some_one : (b c : ℕ) → ◌≡◌ {A = Option ℕ} (some b) (some c) → b ≡ c
+  some_one : (b c : ℕ) → ◌≡◌ {A = Option ℕ} (Some b) (Some c) → b ≡ c
   some_one b c h = cc
 
-  cells_told : (r : ℕ) → (length cs ≡ 0 → ⊥) → length cs % cell_width ≡ 0 → Found (cells_of cs) T S ws r → Told (elim r [ zero ↦ none | suc c ↦ some (suc c) ])
+  cells_told : (r : ℕ) → (length cs ≡ 0 → ⊥) → length cs % cell_width ≡ 0 → Found (cells_of cs) T S ws r → Told (elim r [ zero ↦ None | suc c ↦ Some (suc c) ])
   cells_told zero ne m (inl f) = record {
     none_at = λ e c p. nowhere c p;
     some_at = λ c e. absurd (some_not_none c (sym e));
@@ -279,30 +279,30 @@ module _ (T S : ℕ) (cs ws : List ℕ) where
   unfolding bad_cell
   bad_told = go (eqb (length cs) 0) refl (eqb (length cs % cell_width) 0) refl
     where
-      no_cell : (length cs ≡ 0) ⊎ (length cs % cell_width ≡ 0 → ⊥) → Told (some 0)
+      no_cell : (length cs ≡ 0) ⊎ (length cs % cell_width ≡ 0 → ⊥) → Told (Some 0)
       no_cell x = record { none_at = λ e. absurd (some_not_none 0 e); some_at = λ c e. subst (Place T S cs ws) (some_one 0 c e) (no_cells x) }
 
       go : (x : Bool) → eqb (length cs) 0 ≡ x → (y : Bool) → eqb (length cs % cell_width) 0 ≡ y
           → Told (elim (x || not y) [
-            | true ↦ some 0
-            | false ↦ elim (lowest_from T ws (length (cells_of cs)) 1 0 (top_named S ∷ []) (cells_of cs)) [ zero ↦ none | suc c ↦ some (suc c) ]
+            | true ↦ Some 0
+            | false ↦ elim (lowest_from T ws (length (cells_of cs)) 1 0 (top_named S ∷ []) (cells_of cs)) [ zero ↦ None | suc c ↦ Some (suc c) ]
           ])
       go true e y m = no_cell (inl (eqb-true (length cs) 0 e))
       go false e false m = no_cell (inr (eqb-false (length cs % cell_width) 0 m))
       go false e true m = cells_told _ (eqb-false (length cs) 0 e) (eqb-true (length cs % cell_width) 0 m) (lowest_found (cells_of cs) T S ws)
 
   -- Both name the same cell: the one-pass form gives a place exactly when it is the place of refusal 15 by the rules one by one,
-  pub same_place : (c : ℕ) → bad_cell T S cs ws ≡ some c ↔ Place T S cs ws c
+  pub same_place : (c : ℕ) → bad_cell T S cs ws ≡ Some c ↔ Place T S cs ws c
   same_place c = (bad_told.some_at c, (λ p. go p (bad_cell T S cs ws) refl))
     where
-      go : Place T S cs ws c → (o : Option ℕ) → bad_cell T S cs ws ≡ o → bad_cell T S cs ws ≡ some c
-      go p none e = absurd (bad_told.none_at e c p)
-      go p (some b) e = e ∙ ap some (place_one b c (bad_told.some_at b e) p)
+      go : Place T S cs ws c → (o : Option ℕ) → bad_cell T S cs ws ≡ o → bad_cell T S cs ws ≡ Some c
+      go p None e = absurd (bad_told.none_at e c p)
+      go p (Some b) e = e ∙ ap Some (place_one b c (bad_told.some_at b e) p)
 
   -- and none exactly when by these rules there is none.
-  pub same_none : bad_cell T S cs ws ≡ none ↔ ((c : ℕ) → Place T S cs ws c → ⊥)
+  pub same_none : bad_cell T S cs ws ≡ None ↔ ((c : ℕ) → Place T S cs ws c → ⊥)
   same_none = (bad_told.none_at, (λ h. go h (bad_cell T S cs ws) refl))
     where
-      go : ((c : ℕ) → Place T S cs ws c → ⊥) → (o : Option ℕ) → bad_cell T S cs ws ≡ o → bad_cell T S cs ws ≡ none
-      go h none e = e
-      go h (some b) e = absurd (h b (bad_told.some_at b e))
+      go : ((c : ℕ) → Place T S cs ws c → ⊥) → (o : Option ℕ) → bad_cell T S cs ws ≡ o → bad_cell T S cs ws ≡ None
+      go h None e = e
+      go h (Some b) e = absurd (h b (bad_told.some_at b e))

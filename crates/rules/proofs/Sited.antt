@@ -4,7 +4,7 @@ use mathlib.Core.Path.{◌≡◌, refl, sym, ap, subst, ◌∙◌}
 use mathlib.Core.Bool.{Bool, true, false, ◌||◌, not, true≢false}
 use mathlib.Core.List.{List, ◌∷◌}
 use mathlib.Core.Logic.{◌⊎◌, inl, inr}
-use mathlib.Core.Option.{Option, none, some}
+use Rattle.std.specs.Prelude.{Option, None, Some}
 use Prim.Native.Nat.{ℕ, suc, ◌+◌, ◌-◌, ◌≤◌, ◌<◌}
 use native.Mathlib.Omega.{arith}
 use native.Mathlib.Decide.{dec_lt, ℕ_discrete}
@@ -219,14 +219,14 @@ module _ (ks : List Cell) (T S : ℕ) (ws : List ℕ) where
         unfolding inside_broken room_of
         outside_at b = go (ℕ_discrete o.owner 1) d.within refl b
           where
-            go : Dec (o.owner ≡ 1) → (w : Option ℕ) → d.within ≡ w → elim w [ none ↦ false | some l ↦ ltb l ((cell ks c).position + (cell ks c).len) ] ≡ true → Breaks ks T S ws c
-            go e none w z = absurd (true≢false (sym z))
-            go (yes e) (some l) w z = absurd (some_none (sym w ∙ (f.room ∙ rw (eq-eqb o.owner 1 e, room_of))))
+            go : Dec (o.owner ≡ 1) → (w : Option ℕ) → d.within ≡ w → elim w [ None ↦ false | Some l ↦ ltb l ((cell ks c).position + (cell ks c).len) ] ≡ true → Breaks ks T S ws c
+            go e None w z = absurd (true≢false (sym z))
+            go (yes e) (Some l) w z = absurd (some_none (sym w ∙ (f.room ∙ rw (eq-eqb o.owner 1 e, room_of))))
               where
-                some_none : ◌≡◌ {A = Option ℕ} (some l) none → ⊥
+                some_none : ◌≡◌ {A = Option ℕ} (Some l) None → ⊥
                 some_none q = let t : ◌≡◌ {A = ℕ} 0 1 = cc in omega arith
-            go (no e) (some l) w z =
-                let r : ◌≡◌ {A = Option ℕ} (some l) (some (cell ks o.owner).len) = sym w ∙ (f.room ∙ rw (ne_eqb o.owner 1 e, room_of)) in
+            go (no e) (Some l) w z =
+                let r : ◌≡◌ {A = Option ℕ} (Some l) (Some (cell ks o.owner).len) = sym w ∙ (f.room ∙ rw (ne_eqb o.owner 1 e, room_of)) in
                 let t : l ≡ (cell ks o.owner).len = cc in
                 sticks_out o.owner on_here e (omega (arith, ltb-true l ((cell ks c).position + (cell ks c).len) z))
 
@@ -236,7 +236,7 @@ module _ (ks : List Cell) (T S : ℕ) (ws : List ℕ) where
         in_parent_at b p u ne =
             let e = owner_one p u in
             let ne' : o.owner ≡ 1 → ⊥ = λ s. ne (e ∙ s) in
-            let r : d.within ≡ some (cell ks o.owner).len = f.room ∙ rw (ne_eqb o.owner 1 ne', room_of) in
+            let r : d.within ≡ Some (cell ks o.owner).len = f.room ∙ rw (ne_eqb o.owner 1 ne', room_of) in
             let z : ltb (cell ks o.owner).len ((cell ks c).position + (cell ks c).len) ≡ false = rw r at b in
             subst (λ y. (cell ks c).position + (cell ks c).len ≤ (cell ks y).len) (sym e) (ltb-false (cell ks o.owner).len ((cell ks c).position + (cell ks c).len) z)
 

@@ -6,7 +6,7 @@
 -- cell is on one chain", are one question at each cell (`place_broken`): is it the cell that the latest link names, and
 -- does no other link name it? Chain lengths are counted from the last cell back.
 use Rattle.std.specs.Prelude.{Bool, true, false, ◌&&◌, ◌||◌, not, List, [], ◌∷◌, ℕ, zero, suc, ◌+◌, ◌-◌, ◌%◌, ltb, leb, eqb, length, get_or, take, drop}
-use Rattle.std.proofs.Math.Option.{Option, none, some}
+use Rattle.std.specs.Prelude.{Option, None, Some}
 use Rattle.tree.specs.Cells.{cell_width}
 use Rattle.rules.specs.Cell.{Cell, cells_of, is_part, first_child}
 use Rattle.rules.specs.PartLowest.{part_kept}
@@ -72,7 +72,7 @@ order_broken d k = ltb k.position d.after
 
 -- "children end within their parent, the top excepted"
 unfoldable pub inside_broken : Named → Cell → Bool
-inside_broken d k = elim d.within [ none ↦ false | some l ↦ ltb l (k.position + k.len) ]
+inside_broken d k = elim d.within [ None ↦ false | Some l ↦ ltb l (k.position + k.len) ]
 
 -- "absolute ends fit 32 bits; the top's length is free"
 unfoldable pub end_broken : (c : ℕ) → Named → Cell → Bool
@@ -108,7 +108,7 @@ first_named c d k ds =
           record {
             cell = k.first;
             after = 0;
-            within = elim (eqb c 1) [ true ↦ none | false ↦ some k.len ];
+            within = elim (eqb c 1) [ true ↦ None | false ↦ Some k.len ];
             base = d.base + k.position;
           } ∷ ds
     ]
@@ -145,7 +145,7 @@ module _ (T : ℕ) (ws : List ℕ) (n : ℕ) where
 
 -- the top, before anything is read; S is its absolute start
 unfoldable pub top_named : (S : ℕ) → Named
-top_named S = record { cell = 1; after = 0; within = none; base = S }
+top_named S = record { cell = 1; after = 0; within = None; base = S }
 
 -- Refusal 15: none, or its place: "lowest such cell; 0 if the slice is empty or no multiple of 7". Absolute ends are counted
 -- from S.
@@ -154,6 +154,6 @@ bad_cell T S cs ws =
     let ks = cells_of cs in
     let lowest = lowest_from T ws (length ks) 1 0 (top_named S ∷ []) ks in
     elim (eqb (length cs) 0 || not (eqb (length cs % cell_width) 0)) [
-      | true ↦ some 0
-      | false ↦ elim lowest [ zero ↦ none | suc c ↦ some (suc c) ]
+      | true ↦ Some 0
+      | false ↦ elim lowest [ zero ↦ None | suc c ↦ Some (suc c) ]
     ]

@@ -2,7 +2,7 @@
 -- does not, each in both forms of a run, lent just what 11 to 14 ask and each call with a work slice of its own length. Assumes nothing.
 use mathlib.Core.Path.{◌≡◌, refl, ap, ◌∙◌}
 use mathlib.Core.List.{List, []}
-use mathlib.Core.Option.{none}
+use Rattle.std.specs.Prelude.{None}
 use Prim.Native.Nat.{ℕ}
 use native.Mathlib.Omega.{arith}
 use lib.ListN.{length}
@@ -40,10 +40,10 @@ unfolding levels parse parse_from nearest farther count
 two_levels = refl
 
 abbrev pub run_1024 : Run 4 0
-run_1024 = record { types = 4; bound = 1024; top = 0; given = none; records = P; accepted = accepted_1024; nested = omega (arith, two_levels) }
+run_1024 = record { types = 4; bound = 1024; top = 0; given = None; records = P; accepted = accepted_1024; nested = omega (arith, two_levels) }
 
 abbrev pub run_1 : Run 4 0
-run_1 = record { types = 4; bound = 1; top = 0; given = none; records = P; accepted = accepted_1; nested = omega (arith, two_levels) }
+run_1 = record { types = 4; bound = 1; top = 0; given = None; records = P; accepted = accepted_1; nested = omega (arith, two_levels) }
 
 -- what each writes
 built_1024 : built 4 0 run_1024 ≡ record { cells = cells_1024; words = words_1024 }

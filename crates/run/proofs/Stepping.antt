@@ -1,17 +1,16 @@
 -- The calls of `run` in turn, by the answer of each. Assumes nothing.
-use mathlib.Core.Path.{◌≡◌, sym, ap, ◌∙◌}
+use mathlib.Core.Path.{◌≡◌, refl, sym, ap, ◌∙◌}
 use mathlib.Core.List.{List, [], ◌∷◌}
-use mathlib.Core.Option.{Option}
+use Rattle.std.specs.Prelude.{Option}
 use Prim.Native.Nat.{ℕ, ◌*◌}
 use lib.ListN.{take}
-use Rattle.words.specs.Outcome.{Outcome, accepted, refused, Result}
+use Rattle.words.specs.Outcome.{Outcome, accepted, refused, number_of, place_of, Result}
 use Rattle.tree.specs.Cells.{cell_width}
 use Rattle.tree.specs.Calls.{build_call}
 use Rattle.rules.specs.Calls.{list_call}
-use Rattle.build.specs.Answer.{built_outcome}
-use Rattle.build.specs.declared.Built.{Built}
-use Rattle.listing.specs.Answer.{listed_outcome}
-use Rattle.listing.specs.declared.Listed.{Listed}
+use Rattle.words.specs.Refusal.{refused_by}
+use Rattle.words.specs.declared.refusal.Refusal.{Refusal}
+use Rattle.words.proofs.Refusals.{told}
 use Rattle.run.specs.Running.{Steps, one_work, none_left, followed, on_built, list_steps, run_call}
 
 -- an outcome with outputs
@@ -30,19 +29,25 @@ module _ (T F b S top : ℕ) (given : Option ℕ) (work : ℕ) (records cells wo
   unfolding run_call
   run_from x is = ap from_built is
 
-  module _ (r : Built) (cells' words' : List ℕ) (is : result (built_outcome r) (cells' ∷ words' ∷ []) ≡ build_call T F b S top given work records cells words) where
-    as_built : (v : Built) → r ≡ v → result (built_outcome v) (cells' ∷ words' ∷ []) ≡ build_call T F b S top given work records cells words
-    as_built v e = ap (λ (x : Built). result (built_outcome x) (cells' ∷ words' ∷ [])) (sym e) ∙ is
+  -- the outputs after the build
+  module _ (cells' words' : List ℕ) where
+    pub run_refused : (r : Refusal) → result (refused_by r) (cells' ∷ words' ∷ []) ≡ build_call T F b S top given work records cells words
+        → steps (refused_by r) 0 (cells' ∷ words' ∷ lines ∷ []) ≡ run_call T F b S top given (one_work work) records cells words lines
+    run_refused r is =
+        ap (λ (o : Outcome). steps o 0 (cells' ∷ words' ∷ lines ∷ [])) (told r)
+        ∙ run_from (result (refused (number_of (refused_by r)) (place_of (refused_by r))) (cells' ∷ words' ∷ [])) (ap (λ (o : Outcome). result o (cells' ∷ words' ∷ [])) (sym (told r)) ∙ is)
 
-    pub run_refused : (number place : ℕ) → r ≡ Built.Refused number place → steps (refused number place) 0 (cells' ∷ words' ∷ lines ∷ []) ≡ run_call T F b S top given (one_work work) records cells words lines
-    run_refused number place e = run_from (result (refused number place) (cells' ∷ words' ∷ [])) (as_built (Built.Refused number place) e)
-
-    pub run_listed : (n m : ℕ) → r ≡ Built.Cells n m → (lent : ℕ) → lent ≡ work → (l : Listed) (lines' : List ℕ)
-        → result (listed_outcome l) (lines' ∷ []) ≡ list_call T F S (take (cell_width * n) cells') (take m words') lent lines → (v : Listed) → l ≡ v
-        → followed (accepted (n ∷ m ∷ [])) (cells' ∷ words' ∷ []) (followed (listed_outcome v) (lines' ∷ []) none_left []) (lines ∷ []) ≡ run_call T F b S top given (one_work work) records cells words lines
+    -- what listing answers comes after the counts of the build
+    pub run_listed : (n m : ℕ) → result (accepted (n ∷ m ∷ [])) (cells' ∷ words' ∷ []) ≡ build_call T F b S top given work records cells words
+        → (lent : ℕ) → lent ≡ work → (o : Outcome) (lines' : List ℕ) → result o (lines' ∷ []) ≡ list_call T F S (take (cell_width * n) cells') (take m words') lent lines
+        → followed (accepted (n ∷ m ∷ [])) (cells' ∷ words' ∷ []) (followed o (lines' ∷ []) none_left []) (lines ∷ []) ≡ run_call T F b S top given (one_work work) records cells words lines
     unfolding list_steps
-    run_listed n m e lent same l lines' told v f =
-        let listed : result (listed_outcome v) (lines' ∷ []) ≡ list_call T F S (take (cell_width * n) cells') (take m words') work lines =
-        ap (λ (x : Listed). result (listed_outcome x) (lines' ∷ [])) (sym f) ∙ (told ∙ ap (λ (k : ℕ). list_call T F S (take (cell_width * n) cells') (take m words') k lines) same) in
-        ap (λ (x : Result). followed (accepted (n ∷ m ∷ [])) (cells' ∷ words' ∷ []) (followed x.outcome x.outputs none_left []) (lines ∷ [])) listed
-        ∙ run_from (result (accepted (n ∷ m ∷ [])) (cells' ∷ words' ∷ [])) (as_built (Built.Cells n m) e)
+    run_listed n m is lent same o lines' listed =
+        let here = listed ∙ ap (λ (k : ℕ). list_call T F S (take (cell_width * n) cells') (take m words') k lines) same in
+        ap (λ (x : Result). followed (accepted (n ∷ m ∷ [])) (cells' ∷ words' ∷ []) (followed x.outcome x.outputs none_left []) (lines ∷ [])) here
+        ∙ run_from (result (accepted (n ∷ m ∷ [])) (cells' ∷ words' ∷ [])) is
+
+    -- a refusal of listing, after the build
+    pub list_refused : (n m : ℕ) (r : Refusal) (lines' : List ℕ)
+        → steps (refused_by r) 1 (cells' ∷ words' ∷ lines' ∷ []) ≡ followed (accepted (n ∷ m ∷ [])) (cells' ∷ words' ∷ []) (followed (refused_by r) (lines' ∷ []) none_left []) (lines ∷ [])
+    list_refused n m r lines' = let e = told r in rw e refl

@@ -1,12 +1,16 @@
--- Document 01's number, place and counts for each answer of the run, and how many of its calls are accepted.
+-- The number, place and counts that an answer of the run says, and how many of its calls are accepted.
 use Rattle.std.specs.Prelude.{[], ◌∷◌, ℕ}
-use Rattle.words.specs.Outcome.{Outcome, accepted, refused}
-use Rattle.run.specs.declared.Ran.{Ran}
+use Rattle.std.specs.declared.result.Result.{Result}
+use Rattle.std.specs.declared.result.Result.TheVariants.{Ok, Err}
+use Rattle.words.specs.Outcome.{Outcome, accepted}
+use Rattle.words.specs.Refusal.{refused_by}
+use Rattle.run.specs.declared.Figures.{Figures}
+use Rattle.run.specs.declared.Stopped.{Stopped}
 
-abbrev pub ran_outcome : Ran → Outcome
-ran_outcome (Ran.Lines cells words lines) = accepted (cells ∷ words ∷ lines ∷ [])
-ran_outcome (Ran.Refused number place calls) = refused number place
+abbrev pub ran_outcome : Result Figures Stopped → Outcome
+ran_outcome (Ok f) = accepted (f.cells ∷ f.words ∷ f.lines ∷ [])
+ran_outcome (Err s) = refused_by s.refusal
 
-abbrev pub ran_calls : Ran → ℕ
-ran_calls (Ran.Lines cells words lines) = 2
-ran_calls (Ran.Refused number place calls) = calls
+abbrev pub ran_calls : Result Figures Stopped → ℕ
+ran_calls (Ok f) = 2
+ran_calls (Err s) = s.calls

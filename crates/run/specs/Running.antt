@@ -2,7 +2,7 @@
 -- document 01's "a build, materialise on the cells and words it wrote, then listing on the cells that materialise wrote". Both "with one T,
 -- F and S throughout". The calls are those that `build`, `materialize` and `list` are proved to make.
 use Rattle.std.specs.Prelude.{List, [], ◌∷◌, ◌++◌, ℕ, suc, ◌-◌, ◌*◌, length, get_or, take}
-use Rattle.std.proofs.Math.Option.{Option}
+use Rattle.std.specs.Prelude.{Option}
 use Rattle.words.specs.Outcome.{Outcome, accepted, refused, counts_of, Result}
 use Rattle.tree.specs.Cells.{cell_width}
 use Rattle.tree.specs.Calls.{build_call}

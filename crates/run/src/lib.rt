@@ -2,19 +2,25 @@
 #![tactic(auto)]
 
 ghost use Rattle.std.specs.Prelude.{◌≡◌, [], ◌∷◌, length};
-ghost use Rattle.build.specs.Answer.{given_length};
 ghost use Rattle.run.specs.Running.{one_work, run_call};
 ghost use Rattle.run.specs.Answer.{ran_outcome, ran_calls};
 
 use tree::CELL_WIDTH;
+use words::Refusal;
 
-// What the run answers.
-#[derive(Clone, Copy)]
-pub enum Ran {
-    // The lines stand in the last output: how many cells and packed words the build wrote, how many lines.
-    Lines(usize, usize, usize),
-    // Document 01's number and place of the call that is refused, and how many calls were accepted before it.
-    Refused(u32, usize, u32),
+// How many cells and packed words the build of a run wrote, and how many lines listing did.
+#[derive(Clone, Copy, Debug, PartialEq, Eq)]
+pub struct Figures {
+    pub cells: usize,
+    pub words: usize,
+    pub lines: usize,
+}
+
+// Why a call of a run is refused, and how many calls were accepted before it.
+#[derive(Clone, Copy, Debug, PartialEq, Eq)]
+pub struct Stopped {
+    pub refusal: Refusal,
+    pub calls: u32,
 }
 
 // The two calls with one T, F and S. Listing is handed what the build wrote, and a build that is refused ends the run.
@@ -24,16 +30,16 @@ pub fn run(
     bound: u32,
     start: u32,
     top: u32,
-    given: build::Given,
+    given: Option<u32>,
     records: &[u32],
     work: &mut [u32],
     cells: &mut [u32],
     words: &mut [u16],
     lines: &mut [u32],
-) -> Ran
-    ensures { record { outcome = ran_outcome result; calls = ran_calls result; outputs = cells.new ∷ words.new ∷ lines.new ∷ [] } ≡ run_call types first_repeat bound start top (given_length given) (one_work (length work.old)) records.now cells.old words.old lines.old }
+) -> Result<Figures, Stopped>
+    ensures { record { outcome = ran_outcome result; calls = ran_calls result; outputs = cells.new ∷ words.new ∷ lines.new ∷ [] } ≡ run_call types first_repeat bound start top given (one_work (length work.old)) records.now cells.old words.old lines.old }
 {
-    match build::build(
+    let written = match build::build(
         types,
         first_repeat,
         bound,
@@ -45,15 +51,17 @@ pub fn run(
         cells,
         words,
     ) {
-        build::Built::Refused(number, place) => Ran::Refused(number, place, 0),
-        build::Built::Cells(count, packed) => {
-            let end = CELL_WIDTH * count;
-            let built = &cells[..end];
-            let parts = &words[..packed];
-            match listing::list(types, first_repeat, start, built, parts, work, lines) {
-                listing::Listed::Refused(number, place) => Ran::Refused(number, place, 1),
-                listing::Listed::Lines(written) => Ran::Lines(count, packed, written),
-            }
-        }
+        Ok(written) => written,
+        Err(refusal) => return Err(Stopped { refusal, calls: 0 }),
+    };
+    let built = &cells[..CELL_WIDTH * written.cells];
+    let parts = &words[..written.words];
+    match listing::list(types, first_repeat, start, built, parts, work, lines) {
+        Ok(count) => Ok(Figures {
+            cells: written.cells,
+            words: written.words,
+            lines: count,
+        }),
+        Err(refusal) => Err(Stopped { refusal, calls: 1 }),
     }
 }

@@ -2,7 +2,8 @@
 use mathlib.Core.Path.{◌≡◌, refl, sym, ap, ◌∙◌, subst}
 use mathlib.Core.Bool.{Bool, true, false, cond, ◌&&◌, not}
 use mathlib.Core.List.{List}
-use mathlib.Core.Option.{Option, none, some, map}
+use Rattle.std.specs.Prelude.{Option, None, Some, Result, Ok, Err}
+use Rattle.std.specs.Option.{option_map}
 use Prim.Native.Nat.{ℕ, zero, suc, ◌+◌, ◌-◌, ◌*◌, ◌≤◌, ◌<◌}
 use native.Mathlib.Omega.{arith}
 use borrow.Author.Tests.{le-leb, lt-leb, le-ltb, leb-true, leb-false}
@@ -21,9 +22,7 @@ use Rattle.scan.specs.Steps.{between, packable, settles, decided, stopped_at, ch
 use Rattle.scan.specs.Found.{measured, Found}
 use Rattle.scan.specs.declared.BufferScan.{BufferScan}
 use Rattle.scan.specs.declared.Memo.{Memo}
-use Rattle.scan.specs.declared.Scan.{Scan}
-use Rattle.scan.specs.declared.Scan.TheVariants.{Run, Nothing}
-use Rattle.scan.proofs.Memory.{scan_early, scan_span, joined, scan_walked, walked_lower}
+use Rattle.scan.proofs.Memory.{scan_early, scan_span, joined, scan_walked}
 use Rattle.scan.proofs.Answered.{measured_ordinary}
 use Rattle.scan.proofs.Walks.{end_scan, early_scan}
 
@@ -36,14 +35,14 @@ words_more F (suc k) m (span i s e kids rest) = let z : suc k + m ≡ suc (k + m
 
 -- What the scan of a span and the items behind it says of the run.
 abbrev picked : (F : ℕ) → Items → Option ℕ → Option ℕ
-picked F its none = none
-picked F its (some zero) = none
-picked F its (some (suc k)) = elim (packs F (first (suc k) its)) [ true ↦ some k | false ↦ none ]
+picked F its None = None
+picked F its (Some zero) = None
+picked F its (Some (suc k)) = elim (packs F (first (suc k) its)) [ true ↦ Some k | false ↦ None ]
 
-picked_stopped : (F : ℕ) (its : Items) (own : Option ℕ) → picked F its (stopped own) ≡ none
+picked_stopped : (F : ℕ) (its : Items) (own : Option ℕ) → picked F its (stopped own) ≡ None
 unfolding stopped
-picked_stopped F its none = refl
-picked_stopped F its (some r) = refl
+picked_stopped F its None = refl
+picked_stopped F its (Some r) = refl
 
 run_picked : (F b : ℕ) (own : Option ℕ) (i s e : ℕ) (kids rest : Items)
     → run_from F b own i s e kids rest ≡ picked F (span i s e kids rest) (scan own (e - b) (span i s e kids rest))
@@ -51,17 +50,17 @@ unfolding run_from first
 run_picked F b own i s e kids rest = go (leb (e - s) b) refl
   where
     near : (o : Option ℕ)
-        → ◌≡◌ {A = Option ℕ} (elim o [ none ↦ none | some k ↦ elim (packs F (span i s e kids (first k rest))) [ true ↦ some k | false ↦ none ] ])
-        (picked F (span i s e kids rest) (map suc o))
-    near none = refl
-    near (some k) = refl
+        → ◌≡◌ {A = Option ℕ} (elim o [ None ↦ None | Some k ↦ elim (packs F (span i s e kids (first k rest))) [ true ↦ Some k | false ↦ None ] ])
+        (picked F (span i s e kids rest) (option_map suc o))
+    near None = refl
+    near (Some k) = refl
 
     go : (x : Bool) → leb (e - s) b ≡ x
         → ◌≡◌ {A = Option ℕ} (elim x [
-          | false ↦ none
+          | false ↦ None
           | true ↦ elim (scan own (e - b) rest) [
-            | none ↦ none
-            | some k ↦ elim (packs F (span i s e kids (first k rest))) [ true ↦ some k | false ↦ none ]
+            | None ↦ None
+            | Some k ↦ elim (packs F (span i s e kids (first k rest))) [ true ↦ Some k | false ↦ None ]
           ]
         ]) (picked F (span i s e kids rest) (scan own (e - b) (span i s e kids rest)))
     go false h =
@@ -97,50 +96,50 @@ nothing_packs F = refl
 -- The answer for a run of j items, beginning with the span.
 module _ (F at limit i s e : ℕ) (kids rest : Items) (m : Memo) (mem : Remembered at (span i s e kids rest) limit m) where
   found_run : (j d : ℕ) → let run = first j (span i s e kids rest) in
-      Found F at limit i s e kids rest (picked F (span i s e kids rest) (some j)) (decided (measured F (leftmost d run) run) m)
+      Found F at limit i s e kids rest (picked F (span i s e kids rest) (Some j)) (decided (measured F (leftmost d run) run) m)
   unfolding first leftmost
   found_run zero d = (m, small d, mem)
     where
-      small : (d : ℕ) → decided (measured F d Items.nil) m ≡ Nothing m
-      small d = ap (λ (x : Bool). cond x (Run (measured F d Items.nil)) (Nothing m)) (packable_measured F d Items.nil ∙ nothing_packs F)
+      small : (d : ℕ) → decided (measured F d Items.nil) m ≡ Err m
+      small d = ap (λ (x : Bool). cond x (Ok (measured F d Items.nil)) (Err m)) (packable_measured F d Items.nil ∙ nothing_packs F)
   found_run (suc j) d = go (packs F (span i s e kids (first j rest))) (packable_measured F (leftmost s (first j rest)) (span i s e kids (first j rest)))
     where
       go : (x : Bool) → packable (measured F (leftmost s (first j rest)) (span i s e kids (first j rest))).size (measured F (leftmost s (first j rest)) (span i s e kids (first j rest))).skip ≡ x
-          → Found F at limit i s e kids rest (elim x [ true ↦ some j | false ↦ none ]) (decided (measured F (leftmost s (first j rest)) (span i s e kids (first j rest))) m)
+          → Found F at limit i s e kids rest (elim x [ true ↦ Some j | false ↦ None ]) (decided (measured F (leftmost s (first j rest)) (span i s e kids (first j rest))) m)
       go true h = rw h
       go false h = (m, rw h, mem)
 
-picked_large : (F j : ℕ) (its : Items) → 65532 < words F (first j its) → picked F its (some j) ≡ none
+picked_large : (F j : ℕ) (its : Items) → 65532 < words F (first j its) → picked F its (Some j) ≡ None
 unfolding packs
 picked_large F zero its h = refl
 picked_large F (suc j) its h = rw (picked, lt-leb (words F (first (suc j) its)) 65532 h) (go (long (first (suc j) its)))
   where
-    go : (x : Bool) → ◌≡◌ {A = Option ℕ} (elim (x && false) [ true ↦ some j | false ↦ none ]) none
+    go : (x : Bool) → ◌≡◌ {A = Option ℕ} (elim (x && false) [ true ↦ Some j | false ↦ None ]) None
     go true = refl
     go false = refl
 
-picked_not : (F j : ℕ) (its : Items) → packs F (first j its) ≡ false → picked F its (some j) ≡ none
+picked_not : (F j : ℕ) (its : Items) → packs F (first j its) ≡ false → picked F its (Some j) ≡ None
 picked_not F zero its h = refl
 picked_not F (suc j) its h = rw (picked, h)
 
 -- once the ordinary words seen are too many and the run noted last does not pack, nothing does
-picked_settled : (F k : ℕ) (its : Items) (a o : Option ℕ) → 65532 < words F (first k its) → picked F its a ≡ none → picked F its (joined k a o) ≡ none
-picked_settled F k its a none h n = n
-picked_settled F k its a (some m) h n = picked_large F (k + m) its (omega (arith, words_more F k m its))
+picked_settled : (F k : ℕ) (its : Items) (a o : Option ℕ) → 65532 < words F (first k its) → picked F its a ≡ None → picked F its (joined k a o) ≡ None
+picked_settled F k its a None h n = n
+picked_settled F k its a (Some m) h n = picked_large F (k + m) its (omega (arith, words_more F k m its))
 
 not_true : (x : Bool) → not x ≡ true → x ≡ false
-not_true true h = let z : ◌≡◌ {A = ℕ} 0 1 = cc in absurd (omega arith)
+not_true true h = absurd cc
 not_true false h = refl
 
-settles_both : (l : List ℕ) (p m at : ℕ) → settles l p m at ≡ true
-    → let t = between l p at 0 in let u = between l m at 0 in (65532 < t.size - t.skip) × (packable u.size u.skip ≡ false)
+settles_both : (l : List ℕ) (at : ℕ) (m : Memo) → settles l at m ≡ true
+    → let t = between l m.place at m.start in let u = between l m.mark at m.edge in (65532 < t.size - t.skip) × (packable u.size u.skip ≡ false)
 unfolding settles
-settles_both l p m at h = go (leb ((at - p) * 4 - (get_or l at 0 - get_or l p 0)) 65532) refl h
+settles_both l at m h = go (leb ((at - m.place) * 4 - (get_or l at 0 - get_or l m.place 0)) 65532) refl h
   where
-    go : (x : Bool) → leb ((at - p) * 4 - (get_or l at 0 - get_or l p 0)) 65532 ≡ x
-        → ◌≡◌ {A = Bool} (cond x false (not (packable ((at - m) * 4) (get_or l at 0 - get_or l m 0)))) true
-        → (65532 < (at - p) * 4 - (get_or l at 0 - get_or l p 0)) × (packable ((at - m) * 4) (get_or l at 0 - get_or l m 0) ≡ false)
-    go true e y = let z : ◌≡◌ {A = ℕ} 0 1 = cc in absurd (omega arith)
+    go : (x : Bool) → leb ((at - m.place) * 4 - (get_or l at 0 - get_or l m.place 0)) 65532 ≡ x
+        → ◌≡◌ {A = Bool} (cond x false (not (packable ((at - m.mark) * 4) (get_or l at 0 - get_or l m.mark 0)))) true
+        → (65532 < (at - m.place) * 4 - (get_or l at 0 - get_or l m.place 0)) × (packable ((at - m.mark) * 4) (get_or l at 0 - get_or l m.mark 0) ≡ false)
+    go true e y = absurd cc
     go false e y = (leb-false _ _ e, not_true _ y)
 
 small_not : (size skip : ℕ) → size ≤ 4 → packable size skip ≡ false
@@ -156,17 +155,17 @@ large_not size skip h = rw (lt-leb (size - skip) 65532 h) (go (ltb 4 size))
     go false = refl
 
 -- the run where the walk stops before a span
-joined_plain : (k : ℕ) (a : Option ℕ) → joined k a (stopped none) ≡ some k
+joined_plain : (k : ℕ) (a : Option ℕ) → joined k a (stopped None) ≡ Some k
 unfolding stopped
-joined_plain k a = let z : k + 0 ≡ k = omega arith in ap (λ (j : ℕ). some j) z
+joined_plain k a = let z : k + 0 ≡ k = omega arith in ap (λ (j : ℕ). Some j) z
 
-joined_repeat : (k r : ℕ) (a : Option ℕ) → joined k a (stopped (some r)) ≡ a
+joined_repeat : (k r : ℕ) (a : Option ℕ) → joined k a (stopped (Some r)) ≡ a
 unfolding stopped
 joined_repeat k r a = refl
 
 -- The ways out of the walk, with the memo that it leaves.
 module _ (F b : ℕ) (own : Option ℕ) (w l : List ℕ) (lo at i s e : ℕ) (kids rest : Items) (st : Stands F own w lo at (span i s e kids rest)) (cnt : Counted F w l at)
-    (m : Memo) (v : Walked at (span i s e kids rest) (e - b) m.place m.start m.mark m.edge) (low : m.mark ≤ at) where
+    (m : Memo) (v : Walked at (span i s e kids rest) (e - b) m) (low : m.mark ≤ at) where
   abbrev all : Items
   all = span i s e kids rest
 
@@ -175,29 +174,29 @@ module _ (F b : ℕ) (own : Option ℕ) (w l : List ℕ) (lo at i s e : ℕ) (ki
       ap (λ (t : BufferScan). decided t m)
       (between_measured F own w l lo at all st cnt v.k m.place m.start v.reached ∙ ap (λ (x : ℕ). measured F x (first v.k all)) v.starts)
 
-  by_scan : (o : Option ℕ) → scan own (e - b) all ≡ o → (r : Scan) → chosen own l lo at m ≡ r → Found F at (e - b) i s e kids rest (picked F all o) r
+  by_scan : (o : Option ℕ) → scan own (e - b) all ≡ o → (r : Result BufferScan Memo) → chosen own l lo at m ≡ r → Found F at (e - b) i s e kids rest (picked F all o) r
       → Found F at (e - b) i s e kids rest (run_from F b own i s e kids rest) (chosen own l lo at m)
   by_scan o h r x f =
       subst (λ (t : Option ℕ). Found F at (e - b) i s e kids rest t (chosen own l lo at m)) (sym (run_picked F b own i s e kids rest ∙ ap (picked F all) h))
-      (subst (λ (t : Scan). Found F at (e - b) i s e kids rest (picked F all o) t) (sym x) f)
+      (subst (λ (t : Result BufferScan Memo). Found F at (e - b) i s e kids rest (picked F all o) t) (sym x) f)
 
-  whole_run : Found F at (e - b) i s e kids rest (picked F all (some v.k)) (decided (between l m.place at m.start) m)
+  whole_run : Found F at (e - b) i s e kids rest (picked F all (Some v.k)) (decided (between l m.place at m.start) m)
   whole_run =
-      subst (λ (t : Scan). Found F at (e - b) i s e kids rest (picked F all (some v.k)) t) (sym seen_run) (found_run F at (e - b) i s e kids rest m (λ h. v) v.k v.d)
+      subst (λ (t : Result BufferScan Memo). Found F at (e - b) i s e kids rest (picked F all (Some v.k)) t) (sym seen_run) (found_run F at (e - b) i s e kids rest m (λ h. v) v.k v.d)
 
   pub leaves_limit : m.place ≤ lo → Found F at (e - b) i s e kids rest (run_from F b own i s e kids rest) (chosen own l lo at m)
   leaves_limit h =
-      by_scan (some v.k) (end_scan st v h) (decided (between l m.place at m.start) m)
+      by_scan (Some v.k) (end_scan st v h) (decided (between l m.place at m.start) m)
       (rw (le-leb m.place lo h)) whole_run
 
   -- under a repeat tree the run noted last, or none
   noted_run : (o : Option ℕ) → Noted at v.d all o m.mark m.edge → Found F at (e - b) i s e kids rest (picked F all o) (decided (between l m.mark at m.edge) m)
-  noted_run none h = (m, none_noted, λ x. v)
+  noted_run None h = (m, none_noted, λ x. v)
     where
-      none_noted : decided (between l m.mark at m.edge) m ≡ Nothing m
-      none_noted = ap (λ (x : Bool). cond x (Run (between l m.mark at m.edge)) (Nothing m)) (small_not ((at - m.mark) * 4) (get_or l at 0 - get_or l m.mark 0) (omega arith))
-  noted_run (some j) h =
-      subst (λ (t : Scan). Found F at (e - b) i s e kids rest (picked F all (some j)) t)
+      none_noted : decided (between l m.mark at m.edge) m ≡ Err m
+      none_noted = ap (λ (x : Bool). cond x (Ok (between l m.mark at m.edge)) (Err m)) (small_not ((at - m.mark) * 4) (get_or l at 0 - get_or l m.mark 0) (omega arith))
+  noted_run (Some j) h =
+      subst (λ (t : Result BufferScan Memo). Found F at (e - b) i s e kids rest (picked F all (Some j)) t)
       (sym (ap (λ (t : BufferScan). decided t m)
       (between_measured F own w l lo at all st cnt j m.mark m.edge h.0 ∙ ap (λ (x : ℕ). measured F x (first j all)) h.1)))
       (found_run F at (e - b) i s e kids rest m (λ x. v) j v.d)
@@ -213,58 +212,37 @@ module _ (F b : ℕ) (own : Option ℕ) (w l : List ℕ) (lo at i s e : ℕ) (ki
     where
       go : (o : Option ℕ) → Found F at (e - b) i s e kids rest (picked F all (joined v.k (last_mark v.k all) (stopped o)))
           (decided (stopped_at o (between l m.place at m.start) (between l m.mark at m.edge)) m)
-      go none = subst (λ (t : Option ℕ). Found F at (e - b) i s e kids rest (picked F all t) (decided (between l m.place at m.start) m)) (sym (joined_plain v.k (last_mark v.k all))) whole_run
-      go (some r) =
+      go None = subst (λ (t : Option ℕ). Found F at (e - b) i s e kids rest (picked F all t) (decided (between l m.place at m.start) m)) (sym (joined_plain v.k (last_mark v.k all))) whole_run
+      go (Some r) =
           subst (λ (t : Option ℕ). Found F at (e - b) i s e kids rest (picked F all t) (decided (between l m.mark at m.edge) m)) (sym (joined_repeat v.k r (last_mark v.k all)))
           (noted_run (last_mark v.k all) v.noted)
 
   -- once nothing can pack any more
-  pub leaves_settled : settles l m.place m.mark at ≡ true → Found F at (e - b) i s e kids rest (run_from F b own i s e kids rest) (chosen own l lo at m)
+  pub leaves_settled : settles l at m ≡ true → Found F at (e - b) i s e kids rest (run_from F b own i s e kids rest) (chosen own l lo at m)
   leaves_settled h =
-      by_scan (joined v.k (last_mark v.k all) (scan own (e - b) (after v.k all))) (scan_walked own (e - b) v.k all v.near) (Nothing m)
+      by_scan (joined v.k (last_mark v.k all) (scan own (e - b) (after v.k all))) (scan_walked own (e - b) v.k all v.near) (Err m)
       (any (leb m.place lo) own)
-      (subst (λ (t : Option ℕ). Found F at (e - b) i s e kids rest t (Nothing m)) (sym (picked_settled F v.k all (last_mark v.k all) (scan own (e - b) (after v.k all)) large (refused (last_mark v.k all) v.noted))) (m, refl, λ x. v))
+      (subst (λ (t : Option ℕ). Found F at (e - b) i s e kids rest t (Err m)) (sym (picked_settled F v.k all (last_mark v.k all) (scan own (e - b) (after v.k all)) large (refused (last_mark v.k all) v.noted))) (m, refl, λ x. v))
     where
       both : (65532 < (at - m.place) * 4 - (get_or l at 0 - get_or l m.place 0)) × (packable ((at - m.mark) * 4) (get_or l at 0 - get_or l m.mark 0) ≡ false)
-      both = settles_both l m.place m.mark at h
+      both = settles_both l at m h
 
       large : 65532 < words F (first v.k all)
       large =
           omega (
             arith,
             both.0,
-            ap (λ (t : BufferScan). t.size - t.skip) (between_measured F own w l lo at all st cnt v.k m.place 0 v.reached) ∙ measured_ordinary F 0 (first v.k all),
+            ap (λ (t : BufferScan). t.size - t.skip) (between_measured F own w l lo at all st cnt v.k m.place m.start v.reached) ∙ measured_ordinary F m.start (first v.k all),
           )
 
-      refused : (o : Option ℕ) → Noted at v.d all o m.mark m.edge → picked F all o ≡ none
-      refused none n = refl
-      refused (some j) n =
+      refused : (o : Option ℕ) → Noted at v.d all o m.mark m.edge → picked F all o ≡ None
+      refused None n = refl
+      refused (Some j) n =
           picked_not F j all
           (sym (packable_measured F m.edge (first j all)) ∙ (ap (λ (t : BufferScan). packable t.size t.skip) (sym (between_measured F own w l lo at all st cnt j m.mark m.edge n.0)) ∙ both.1))
 
       any : (x : Bool) (o : Option ℕ)
-          → ◌≡◌ {A = Scan} (cond x (decided (between l m.place at m.start) m) (decided (stopped_at o (between l m.place at m.start) (between l m.mark at m.edge)) m)) (Nothing m)
+          → ◌≡◌ {A = Result BufferScan Memo} (cond x (decided (between l m.place at m.start) m) (decided (stopped_at o (between l m.place at m.start) (between l m.mark at m.edge)) m)) (Err m)
       any true o = rw (large_not _ _ both.0)
-      any false none = rw (large_not _ _ both.0)
-      any false (some r) = rw both.1
-
--- What the walk leaves.
-pub record Left (F b : ℕ) (own : Option ℕ) (w l : List ℕ) (lo at i s e : ℕ) (kids rest : Items) (m : Memo) : Type 0 where
-  pub reached : m.place ≤ at
-  pub low : m.mark ≤ at
-  pub found : Found F at (e - b) i s e kids rest (run_from F b own i s e kids rest) (chosen own l lo at m)
-
-module _ (b : ℕ) {F : ℕ} {own : Option ℕ} {w l : List ℕ} {lo at i s e : ℕ} {kids rest : Items} (st : Stands F own w lo at (span i s e kids rest)) (cnt : Counted F w l at)
-    {limit : ℕ} (is : limit ≡ e - b) (m : Memo) (v : Walked at (span i s e kids rest) limit m.place m.start m.mark m.edge) (low : m.mark ≤ at) where
-  exact : Walked at (span i s e kids rest) (e - b) m.place m.start m.mark m.edge
-  exact = walked_lower at (span i s e kids rest) limit (e - b) m.place m.start m.mark m.edge (omega arith) v
-
-  pub left_limit : m.place ≤ lo → Left F b own w l lo at i s e kids rest m
-  left_limit h = record { reached = omega (arith, v.reached); low = low; found = leaves_limit F b own w l lo at i s e kids rest st cnt m exact low h }
-
-  pub left_early : lo < m.place → same own (id_of w (m.place - 1)) ≡ false → start_of w (m.place - 1) < limit → Left F b own w l lo at i s e kids rest m
-  left_early h other soon =
-      record { reached = omega (arith, v.reached); low = low; found = leaves_early F b own w l lo at i s e kids rest st cnt m exact low h other (omega arith) }
-
-  pub left_settled : settles l m.place m.mark at ≡ true → Left F b own w l lo at i s e kids rest m
-  left_settled h = record { reached = omega (arith, v.reached); low = low; found = leaves_settled F b own w l lo at i s e kids rest st cnt m exact low h }
+      any false None = rw (large_not _ _ both.0)
+      any false (Some r) = rw both.1

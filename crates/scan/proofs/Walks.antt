@@ -2,7 +2,7 @@
 use mathlib.Core.Path.{◌≡◌, refl, ap, ◌∙◌}
 use mathlib.Core.Bool.{Bool, true, false}
 use mathlib.Core.List.{List}
-use mathlib.Core.Option.{Option, none, some}
+use Rattle.std.specs.Prelude.{Option, None, Some}
 use Prim.Native.Nat.{ℕ, suc, ◌+◌, ◌-◌, ◌*◌, ◌/◌, ◌≤◌, ◌<◌, min}
 use native.Mathlib.Omega.{arith}
 use borrow.Author.Tests.{ltb-true}
@@ -19,77 +19,75 @@ use Rattle.scan.specs.Steps.{resumed}
 use Rattle.scan.specs.declared.Memo.{Memo}
 use Rattle.scan.proofs.Memory.{scan_early, joined, scan_walked, walked_mark, walked_span, walked_none, walked_lower}
 
-not_both : (x : Bool) → x ≡ true → x ≡ false → ⊥
-not_both x a b = let z : ◌≡◌ {A = ℕ} 0 1 = cc in omega arith
-
 -- the scan at the parent's limit
-scan_end : (own : Option ℕ) (limit k : ℕ) (its : Items) (o : Option ℕ) → its ≡ Items.nil → joined k o (scan own limit its) ≡ some k
+scan_end : (own : Option ℕ) (limit k : ℕ) (its : Items) (o : Option ℕ) → its ≡ Items.nil → joined k o (scan own limit its) ≡ Some k
 unfolding scan
-scan_end own limit k its o e = rw e (let z : k + 0 ≡ k = omega arith in ap (λ (j : ℕ). some j) z)
+scan_end own limit k its o e = rw e (let z : k + 0 ≡ k = omega arith in ap (λ (j : ℕ). Some j) z)
 
-module _ {F : ℕ} {own : Option ℕ} {w : List ℕ} {lo at : ℕ} {its : Items} {limit p start m c : ℕ}
-    (st : Stands F own w lo at its) (v : Walked at its limit p start m c) where
+module _ {F : ℕ} {own : Option ℕ} {w : List ℕ} {lo at : ℕ} {its : Items} {limit : ℕ} {m : Memo}
+    (st : Stands F own w lo at its) (v : Walked at its limit m) where
   -- the items still to come
-  ahead : Stands F own w lo p (after v.k its)
-  ahead = let e : at - records (first v.k its) ≡ p = omega (arith, v.reached) in rw e at (stands_after F own w lo at v.k its st)
+  ahead : Stands F own w lo m.place (after v.k its)
+  ahead = let e : at - records (first v.k its) ≡ m.place = omega (arith, v.reached) in rw e at (stands_after F own w lo at v.k its st)
 
-  pub step_bounds : (lo ≤ p) × (p ≤ at) × (p * 4 ≤ length w)
-  step_bounds = (omega (arith, spells_count w lo p (after v.k its) ahead.spells), omega (arith, v.reached), ahead.within)
+  pub step_bounds : (lo ≤ m.place) × (m.place ≤ at) × (m.place * 4 ≤ length w)
+  step_bounds = (omega (arith, spells_count w lo m.place (after v.k its) ahead.spells), omega (arith, v.reached), ahead.within)
 
-  pub end_scan : p ≤ lo → scan own limit its ≡ some v.k
+  pub end_scan : m.place ≤ lo → scan own limit its ≡ Some v.k
   end_scan h =
       scan_walked own limit v.k its v.near
-      ∙ scan_end own limit v.k (after v.k its) (last_mark v.k its) (spells_none w lo p (after v.k its) ahead.spells h)
+      ∙ scan_end own limit v.k (after v.k its) (last_mark v.k its) (spells_none w lo m.place (after v.k its) ahead.spells h)
 
-  module _ (some_record : lo < p) where
-    pub step_mark : same own (id_of w (p - 1)) ≡ true → Walked at its limit (p - 1) start p start
+  module _ (some_record : lo < m.place) where
+    pub step_mark : same own (id_of w (m.place - 1)) ≡ true → Walked at its limit (record { place = m.place - 1; start = m.start; mark = m.place; edge = m.start })
     step_mark h = go (after v.k its) refl ahead
       where
-        go : (left : Items) → after v.k its ≡ left → Stands F own w lo p left → Walked at its limit (p - 1) start p start
+        go : (left : Items) → after v.k its ≡ left → Stands F own w lo m.place left
+            → Walked at its limit (record { place = m.place - 1; start = m.start; mark = m.place; edge = m.start })
         go Items.nil e t = absurd (omega (arith, t.spells))
-        go (mark i s x n rest) e t = walked_mark at its limit p start m c v i s x n rest e (omega arith)
-        go (span i s x kids rest) e t = absurd (not_both (same own (id_of w (p - 1))) h (ap (same own) t.spells.id ∙ t.marked.other))
+        go (mark i s x n rest) e t = walked_mark at its limit m v i s x n rest e (omega arith)
+        go (span i s x kids rest) e t = absurd cc
 
-    module _ (other : same own (id_of w (p - 1)) ≡ false) where
-      pub step_room : (lo + last_of w (p - 1) / 4 ≤ p) × (0 < last_of w (p - 1) / 4)
+    module _ (other : same own (id_of w (m.place - 1)) ≡ false) where
+      pub step_room : (lo + last_of w (m.place - 1) / 4 ≤ m.place) × (0 < last_of w (m.place - 1) / 4)
       step_room = go (after v.k its) ahead
         where
-          go : (left : Items) → Stands F own w lo p left → (lo + last_of w (p - 1) / 4 ≤ p) × (0 < last_of w (p - 1) / 4)
+          go : (left : Items) → Stands F own w lo m.place left → (lo + last_of w (m.place - 1) / 4 ≤ m.place) × (0 < last_of w (m.place - 1) / 4)
           go Items.nil t = absurd (omega (arith, t.spells))
-          go (mark i s x n rest) t = absurd (not_both (same own (id_of w (p - 1))) (ap (same own) t.spells.id ∙ t.marked.alone) other)
+          go (mark i s x n rest) t = absurd cc
           go (span i s x kids rest) t = (omega (arith, t.spells.room, t.spells.size), omega (arith, t.spells.size))
 
-      pub step_span : limit ≤ start_of w (p - 1) → Walked at its limit (p - last_of w (p - 1) / 4) (start_of w (p - 1)) m c
+      pub step_span : limit ≤ start_of w (m.place - 1) → Walked at its limit (record { place = m.place - last_of w (m.place - 1) / 4; start = start_of w (m.place - 1); mark = m.mark; edge = m.edge })
       step_span near = go (after v.k its) refl ahead
         where
-          go : (left : Items) → after v.k its ≡ left → Stands F own w lo p left → Walked at its limit (p - last_of w (p - 1) / 4) (start_of w (p - 1)) m c
+          go : (left : Items) → after v.k its ≡ left → Stands F own w lo m.place left → Walked at its limit (record { place = m.place - last_of w (m.place - 1) / 4; start = start_of w (m.place - 1); mark = m.mark; edge = m.edge })
           go Items.nil e t = absurd (omega (arith, t.spells))
-          go (mark i s x n rest) e t = absurd (not_both (same own (id_of w (p - 1))) (ap (same own) t.spells.id ∙ t.marked.alone) other)
+          go (mark i s x n rest) e t = absurd cc
           go (span i s x kids rest) e t =
-              let n : last_of w (p - 1) / 4 ≡ suc (records kids) = omega (arith, t.spells.size) in
-              rw (n, t.spells.start) (walked_span at its limit p start m c v i s x kids rest e (omega (arith, t.spells.start)) (omega (arith, t.spells.room)))
+              let n : last_of w (m.place - 1) / 4 ≡ suc (records kids) = omega (arith, t.spells.size) in
+              rw (n, t.spells.start) (walked_span at its limit m v i s x kids rest e (omega (arith, t.spells.start)) (omega (arith, t.spells.room)))
 
-      pub early_scan : start_of w (p - 1) < limit → scan own limit its ≡ joined v.k (last_mark v.k its) (stopped own)
+      pub early_scan : start_of w (m.place - 1) < limit → scan own limit its ≡ joined v.k (last_mark v.k its) (stopped own)
       early_scan soon = scan_walked own limit v.k its v.near ∙ ap (joined v.k (last_mark v.k its)) (go (after v.k its) ahead)
         where
-          go : (left : Items) → Stands F own w lo p left → scan own limit left ≡ stopped own
+          go : (left : Items) → Stands F own w lo m.place left → scan own limit left ≡ stopped own
           go Items.nil t = absurd (omega (arith, t.spells))
-          go (mark i s x n rest) t = absurd (not_both (same own (id_of w (p - 1))) (ap (same own) t.spells.id ∙ t.marked.alone) other)
+          go (mark i s x n rest) t = absurd cc
           go (span i s x kids rest) t = scan_early own limit i s x kids rest (omega (arith, t.spells.start))
 
 -- where a scan goes on
 noted_min : (at d : ℕ) (its : Items) (o : Option ℕ) (m c : ℕ) → Noted at d its o m c → Noted at d its o (min m at) c
-noted_min at d its none m c h = omega arith
-noted_min at d its (some j) m c h = (omega (arith, h.0), h.1)
+noted_min at d its None m c h = omega arith
+noted_min at d its (Some j) m c h = (omega (arith, h.0), h.1)
 
 pub resumed_walked : (at : ℕ) (its : Items) (limit limit' : ℕ) (m r : Memo) → r ≡ resumed at m → Remembered at its limit m → limit' ≤ limit
-    → Walked at its limit' r.place r.start r.mark r.edge
+    → Walked at its limit' r
 resumed_walked at its limit limit' m r e rem le = go (ltb m.place at) refl
   where
-    go : (x : Bool) → ltb m.place at ≡ x → Walked at its limit' r.place r.start r.mark r.edge
+    go : (x : Bool) → ltb m.place at ≡ x → Walked at its limit' r
     go true h =
         let t : r ≡ record { place = m.place; start = m.start; mark = min m.mark at; edge = m.edge } = e ∙ rw h in
-        let v = walked_lower at its limit limit' m.place m.start m.mark m.edge le (rem (ltb-true m.place at h)) in
+        let v = walked_lower at its limit limit' m le (rem (ltb-true m.place at h)) in
         rw t (record { k = v.k; d = v.d; near = v.near; reached = v.reached; starts = v.starts; noted = noted_min at v.d its (last_mark v.k its) m.mark m.edge v.noted })
     go false h =
         let t : r ≡ record { place = at; start = 0; mark = at; edge = 0 } = e ∙ rw h in
@@ -105,8 +103,3 @@ resumed_mark at m r e = go (ltb m.place at) refl
     go false h =
         let t : r ≡ record { place = at; start = 0; mark = at; edge = 0 } = e ∙ rw h in
         rw t (omega arith)
-
--- What each turn of the walk keeps: a walk that had got to the place before has got to this one.
-abbrev pub Goes : (own : Option ℕ) (w : List ℕ) (lo at limit p₀ start₀ m₀ c₀ p start m c : ℕ) → Type 0
-Goes own w lo at limit p₀ start₀ m₀ c₀ p start m c =
-    (F : ℕ) (its : Items) → Stands F own w lo at its → Walked at its limit p₀ start₀ m₀ c₀ → Walked at its limit p start m c

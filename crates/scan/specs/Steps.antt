@@ -1,11 +1,8 @@
 -- The steps of a scan in numbers. Only internal functions cite these.
-use Rattle.std.specs.Prelude.{Bool, false, cond, ◌&&◌, not, List, ℕ, ◌-◌, ◌*◌, min, ltb, leb, get_or}
-use Rattle.std.proofs.Math.Option.{Option, none, some}
+use Rattle.std.specs.Prelude.{Bool, false, cond, ◌&&◌, not, List, ℕ, ◌-◌, ◌*◌, min, ltb, leb, get_or, Option, None, Some, Result, Ok, Err}
 use Rattle.words.specs.Words.{record_width}
 use Rattle.scan.specs.declared.BufferScan.{BufferScan}
 use Rattle.scan.specs.declared.Memo.{Memo}
-use Rattle.scan.specs.declared.Scan.{Scan}
-use Rattle.scan.specs.declared.Scan.TheVariants.{Run, Nothing}
 
 -- the memo to go on from: where nothing is remembered the walk begins at `at`; a mark not before `at` is no mark
 abbrev pub resumed : (at : ℕ) → Memo → Memo
@@ -23,23 +20,23 @@ unfoldable pub packable : (size skip : ℕ) → Bool
 packable size skip = ltb record_width size && leb (size - skip) 65532
 
 -- nothing can pack any more: the ordinary words seen are too many, and the run noted last does not pack
-unfoldable pub settles : (l : List ℕ) (p mark at : ℕ) → Bool
-settles l p mark at =
-    let seen = between l p at 0 in
-    let noted = between l mark at 0 in
+unfoldable pub settles : (l : List ℕ) (at : ℕ) → Memo → Bool
+settles l at m =
+    let seen = between l m.place at m.start in
+    let noted = between l m.mark at m.edge in
     cond (leb (seen.size - seen.skip) 65532) false (not (packable noted.size noted.skip))
 
-abbrev pub decided : BufferScan → Memo → Scan
-decided t m = cond (packable t.size t.skip) (Run t) (Nothing m)
+abbrev pub decided : BufferScan → Memo → Result BufferScan Memo
+decided t m = cond (packable t.size t.skip) (Ok t) (Err m)
 
 -- the run where the walk stops before a span that starts too early: all that was seen, or under a repeat tree the last noted
 abbrev pub stopped_at : Option ℕ → (seen noted : BufferScan) → BufferScan
-stopped_at none seen noted = seen
-stopped_at (some id) seen noted = noted
+stopped_at None seen noted = seen
+stopped_at (Some id) seen noted = noted
 
 -- the answer after a walk: "the run is the whole walk if the parent is no repeat tree or the walk reached its limit, else the
 -- last noted"
-abbrev pub chosen : (own : Option ℕ) (l : List ℕ) (lo at : ℕ) → Memo → Scan
+abbrev pub chosen : (own : Option ℕ) (l : List ℕ) (lo at : ℕ) → Memo → Result BufferScan Memo
 chosen own l lo at m =
     let seen = between l m.place at m.start in
     let noted = between l m.mark at m.edge in

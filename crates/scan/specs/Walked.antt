@@ -1,7 +1,7 @@
 -- How far a scan's walk has got, and what it remembers for the next scan under the same parent. Only internal functions cite
 -- these.
-use Rattle.std.specs.Prelude.{◌≡◌, List, ℕ, zero, suc, ◌+◌, ◌-◌, ◌≤◌, ◌<◌}
-use Rattle.std.proofs.Math.Option.{Option, none, some, map}
+use Rattle.std.specs.Prelude.{◌≡◌, List, ℕ, zero, suc, ◌+◌, ◌-◌, ◌≤◌, ◌<◌, Option, None, Some}
+use Rattle.std.specs.Option.{option_map}
 use Rattle.tree.specs.Items.{Items, nil, mark, span, records, first, leftmost}
 use Rattle.cursor.specs.Spells.{Stands}
 use Rattle.scan.specs.Counted.{Counted}
@@ -16,28 +16,28 @@ Near limit (suc k) (span i s e kids rest) = (limit ≤ s) × Near limit k rest
 
 -- how many items stand before the last mark among the first k, which is the run noted last
 unfoldable pub last_mark : (k : ℕ) → Items → Option ℕ
-last_mark zero its = none
-last_mark (suc k) nil = none
-last_mark (suc k) (mark i s e n rest) = elim (last_mark k rest) [ none ↦ some 0 | some j ↦ some (suc j) ]
-last_mark (suc k) (span i s e kids rest) = map suc (last_mark k rest)
+last_mark zero its = None
+last_mark (suc k) nil = None
+last_mark (suc k) (mark i s e n rest) = elim (last_mark k rest) [ None ↦ Some 0 | Some j ↦ Some (suc j) ]
+last_mark (suc k) (span i s e kids rest) = option_map suc (last_mark k rest)
 
 -- the place where the run noted last ends, and where its leftmost span starts; a place not before `at` says that none is noted
 abbrev pub Noted : (at d : ℕ) → Items → Option ℕ → (place edge : ℕ) → Type 0
-Noted at d its none place edge = at ≤ place
-Noted at d its (some j) place edge = (place + records (first j its) ≡ at) × (edge ≡ leftmost d (first j its))
+Noted at d its None place edge = at ≤ place
+Noted at d its (Some j) place edge = (place + records (first j its) ≡ at) × (edge ≡ leftmost d (first j its))
 
--- A walk from `at` back over the first k items has got to `place`; `start` is the start of the span walked last.
-pub record Walked (at : ℕ) (its : Items) (limit place start mark edge : ℕ) : Type 0 where
+-- A walk from `at` back over the first k items has got as far as the memo says.
+pub record Walked (at : ℕ) (its : Items) (limit : ℕ) (m : Memo) : Type 0 where
   pub k : ℕ
   pub d : ℕ
   pub near : Near limit k its
-  pub reached : place + records (first k its) ≡ at
-  pub starts : start ≡ leftmost d (first k its)
-  pub noted : Noted at d its (last_mark k its) mark edge
+  pub reached : m.place + records (first k its) ≡ at
+  pub starts : m.start ≡ leftmost d (first k its)
+  pub noted : Noted at d its (last_mark k its) m.mark m.edge
 
 -- what an earlier scan has walked of these items; nothing where its place is not before `at`
 abbrev pub Remembered : (at : ℕ) → Items → (limit : ℕ) → Memo → Type 0
-Remembered at its limit m = m.place < at → Walked at its limit m.place m.start m.mark m.edge
+Remembered at its limit m = m.place < at → Walked at its limit m
 
 -- What a scan from behind record at - 1 takes: the span there and the items before it, the counts, and a memo of a scan whose
 -- limit was no lower.

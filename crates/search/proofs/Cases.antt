@@ -11,7 +11,7 @@ use lib.IntN.{ℤ}
 use Rattle.words.specs.Outcome.{Outcome, accepted, refused}
 use Rattle.part.specs.Part.{part_check}
 use Rattle.part.proofs.Faults.{Sound, part_sound, part_whole}
-use mathlib.Core.Option.{none, some}
+use Rattle.std.specs.Prelude.{None, Some}
 use Rattle.search.specs.Search.{meets, beyond, child, match_counts, search_part}
 use Rattle.search.specs.Way.{Linked}
 
@@ -63,10 +63,10 @@ module _ (w : List ℕ) (types from to : ℕ) (direction : ℤ) (position base :
       unfolding search_part
       never_met h = rw (ok, le-ltb _ _ a, le-ltb _ _ b, eq-eqb _ _ m, eq-eqb _ _ n, h)
 
-      pub too_far : (at : ℕ) → meets w (length w) from to ≡ true → beyond w from to base ≡ some at → outcome ≡ refused 25 at
+      pub too_far : (at : ℕ) → meets w (length w) from to ≡ true → beyond w from to base ≡ Some at → outcome ≡ refused 25 at
       unfolding search_part
       too_far at h k = rw (ok, le-ltb _ _ a, le-ltb _ _ b, eq-eqb _ _ m, eq-eqb _ _ n, h, k)
 
-      pub searched : meets w (length w) from to ≡ true → beyond w from to base ≡ none → outcome ≡ match_counts (child w from to direction position base side)
+      pub searched : meets w (length w) from to ≡ true → beyond w from to base ≡ None → outcome ≡ match_counts (child w from to direction position base side)
       unfolding search_part
       searched h k = rw (ok, le-ltb _ _ a, le-ltb _ _ b, eq-eqb _ _ m, eq-eqb _ _ n, h, k)

@@ -8,7 +8,7 @@ use native.Mathlib.Omega.{arith}
 use borrow.Author.Tests.{lt-ltb, le-ltb}
 use lib.Dec.{eqb}
 use lib.ListN.{length, get_or}
-use mathlib.Core.Option.{Option, some}
+use Rattle.std.specs.Prelude.{Option, Some}
 use Rattle.search.specs.Search.{meets, way, choose}
 use Rattle.search.specs.Way.{Linked}
 
@@ -72,20 +72,20 @@ module _ (test : ℕ → Bool) (forward : Bool) (d : Option ℕ) where
   choose_none = refl
 
   module _ (a : ℕ) (l : List ℕ) where
-    pub choose_first : test a ≡ true → forward ≡ true → choose test forward d (a ∷ l) ≡ some a
+    pub choose_first : test a ≡ true → forward ≡ true → choose test forward d (a ∷ l) ≡ Some a
     unfolding choose
     choose_first h f = rw (h, f)
 
-    pub choose_later : test a ≡ true → forward ≡ false → choose test forward d (a ∷ l) ≡ choose test forward (some a) l
+    pub choose_later : test a ≡ true → forward ≡ false → choose test forward d (a ∷ l) ≡ choose test forward (Some a) l
     unfolding choose
-    choose_later h f = rw (h, f) (ap (λ (b : Bool). choose test b (some a) l) f)
+    choose_later h f = rw (h, f) (ap (λ (b : Bool). choose test b (Some a) l) f)
 
     pub choose_miss : test a ≡ false → choose test forward d (a ∷ l) ≡ choose test forward d l
     unfolding choose
     choose_miss h = rw h
 
     -- what is found after the element, `e`, is the element itself where the search goes on past a match
-    pub choose_on : (e : Option ℕ) → (test a ≡ true → (forward ≡ false) × (e ≡ some a)) → (test a ≡ false → e ≡ d) → choose test forward d (a ∷ l) ≡ choose test forward e l
+    pub choose_on : (e : Option ℕ) → (test a ≡ true → (forward ≡ false) × (e ≡ Some a)) → (test a ≡ false → e ≡ d) → choose test forward d (a ∷ l) ≡ choose test forward e l
     choose_on e hit miss = go (test a) refl
       where
         go : (t : Bool) → test a ≡ t → choose test forward d (a ∷ l) ≡ choose test forward e l

@@ -1,11 +1,12 @@
--- Document 01's number, place and counts for each answer of the search.
-use Rattle.std.proofs.Math.Option.{none, some}
-use Rattle.words.specs.Outcome.{Outcome, refused}
+-- The number, place and counts that an answer of the search says.
+use Rattle.std.specs.Prelude.{ℕ, Option}
+use Rattle.std.specs.declared.result.Result.{Result}
+use Rattle.std.specs.declared.result.Result.TheVariants.{Ok, Err}
+use Rattle.words.specs.Outcome.{Outcome}
+use Rattle.words.specs.Refusal.{refused_by}
+use Rattle.words.specs.declared.refusal.Refusal.{Refusal}
 use Rattle.search.specs.Search.{match_counts}
-use Rattle.search.specs.declared.Searched.{Searched}
-use Rattle.search.specs.declared.Searched.TheVariants.{Match, NoMatch, Refused}
 
-abbrev pub searched_outcome : Searched → Outcome
-searched_outcome (Match at) = match_counts (some at)
-searched_outcome NoMatch = match_counts none
-searched_outcome (Refused number place) = refused number place
+abbrev pub searched_outcome : Result (Option ℕ) Refusal → Outcome
+searched_outcome (Ok found) = match_counts found
+searched_outcome (Err r) = refused_by r

@@ -1,6 +1,6 @@
 -- Searching a packed part, as document 01 has it: the part check, 21, 22, 24, 25, then find_buffer_child of the source.
 use Rattle.std.specs.Prelude.{ℕ, suc, zero, ◌+◌, ◌%◌, List, [], ◌∷◌, Bool, cond, not, length, get_or, ltb, eqb, ℤ, pos}
-use Rattle.std.proofs.Math.Option.{Option, none, some}
+use Rattle.std.specs.Prelude.{Option, None, Some}
 use Rattle.std.specs.Int.Signed.{lt_z}
 use Rattle.words.specs.Words.{record_width}
 use Rattle.words.specs.Outcome.{Outcome, accepted, refused, unless_refused, unless_found}
@@ -38,18 +38,18 @@ matching w position base side at = on_side side position (base + get_or w (at + 
 unfoldable pub choose : (ℕ → Bool) → Bool → Option ℕ → List ℕ → Option ℕ
 choose test forward d [] = d
 choose test forward d (a ∷ l) =
-    let rest = choose test forward (some a) l in
+    let rest = choose test forward (Some a) l in
     let other = choose test forward d l in
-    cond (test a) (cond forward (some a) rest) other
+    cond (test a) (cond forward (Some a) rest) other
 
 -- "forward (a direction above 0) the first match, else the last"
 unfoldable pub child : List ℕ → ℕ → ℕ → ℤ → ℕ → ℕ → ℤ → Option ℕ
-child w from to direction position base side = choose (matching w position base side) (lt_z (pos 0) direction) none (way_to w from to)
+child w from to direction position base side = choose (matching w position base side) (lt_z (pos 0) direction) None (way_to w from to)
 
 -- "for searching 1 and the match's word offset, or 0 and 0 for none"
 abbrev pub match_counts : Option ℕ → Outcome
-match_counts none = accepted (0 ∷ 0 ∷ [])
-match_counts (some at) = accepted (1 ∷ at ∷ [])
+match_counts None = accepted (0 ∷ 0 ∷ [])
+match_counts (Some at) = accepted (1 ∷ at ∷ [])
 
 -- the whole call
 unfoldable pub search_part : List ℕ → ℕ → ℕ → ℕ → ℤ → ℕ → ℕ → ℤ → Outcome

@@ -1,163 +1,125 @@
-// Runs the tree check on cells of document 01's examples and on damaged trees, one or more for each rule; writes the place, or
-// "none", or "11" where the work slice is too small.
+// Runs the tree check on cells of examples and on damaged trees, one or more for each rule; writes the place, or "none", or "11" where
+// the work slice is too small.
 #![tactic(auto)]
 
-ghost use Rattle.std.specs.Prelude.{◌≡◌, length};
-
+use std::io;
 use tree::CELL_WIDTH;
-use words::Found;
 
-// The words of so many cells.
-const TWO: usize = 2 * CELL_WIDTH;
+// How many types of records there are.
+const TYPES: u32 = 4;
 
-const THREE: usize = 3 * CELL_WIDTH;
+type Cell = [u32; CELL_WIDTH];
 
-const FOUR: usize = 4 * CELL_WIDTH;
-
-const NONE: [u32; CELL_WIDTH] = [0, 0, 0, 0, 0, 0, 0];
-
-// The words of four cells.
-fn four(
-    a: [u32; CELL_WIDTH],
-    b: [u32; CELL_WIDTH],
-    c: [u32; CELL_WIDTH],
-    d: [u32; CELL_WIDTH],
-) -> [u32; FOUR]
-    ensures { length result ≡ 28 }
-{
-    let mut out = [0u32; FOUR];
-    let mut i: usize = 0;
-    while i < CELL_WIDTH {
-        out[i] = a[i];
-        out[i + CELL_WIDTH] = b[i];
-        out[i + TWO] = c[i];
-        out[i + THREE] = d[i];
-        i += 1;
-    }
-    out
-}
-
-fn show_tree(cells: &[u32], words: &[u16], start: u32, work: &mut [u32]) {
+fn show_with(
+    rt: &impl Print,
+    cells: &[u32],
+    words: &[u16],
+    start: u32,
+    work: &mut [u32],
+) -> io::Result<()> {
     if cells::too_little_work(cells, words, &*work) {
-        io::write_all(1, b"11\n");
-        return;
+        return println!(rt; "11");
     }
-    let found = cells::tree_check(cells, words, 4, start, work);
-    if let Found::At(place) = found {
-        io::print_decimal(1, place as u64);
-        io::write_all(1, b"\n");
-        return;
+    match cells::tree_check(cells, words, TYPES, start, work) {
+        Some(place) => println!(rt; "{place}"),
+        None => println!(rt; "none"),
     }
-    io::write_all(1, b"none\n");
 }
 
-// With T 4, S 0 and a work slice of 1,152 words, enough for eleven items.
-fn show(cells: &[u32], words: &[u16]) {
-    let mut work = [4294967295u32; 1152];
-    show_tree(cells, words, 0, &mut work);
+// With S 0 and a work slice of 1,152 words, enough for eleven items.
+fn show(rt: &impl Print, cells: &[u32], words: &[u16]) -> io::Result<()> {
+    show_with(rt, cells, words, 0, &mut [4294967295; 1152])
 }
 
-// The first so many words of four cells, with no packed words.
-fn show_cells(
-    a: [u32; CELL_WIDTH],
-    b: [u32; CELL_WIDTH],
-    c: [u32; CELL_WIDTH],
-    d: [u32; CELL_WIDTH],
-    size: usize,
-) {
-    let cells = four(a, b, c, d);
-    let words: [u16; 1] = [0];
-    if size <= FOUR {
-        show(&cells[..size], &words[..0]);
+// Trees with no packed words.
+fn show_trees(rt: &impl Print, trees: &[&[Cell]]) -> io::Result<()> {
+    for cells in trees {
+        show(rt, cells.as_flattened(), &[])?;
     }
+    Ok(())
 }
 
 // P with b 1,024: as it is, at the last end that fits and past it, with a work slice one word short. P with b 1:
 // as it is, and with the chain of cell 2 cut.
-fn examples() {
-    let packed: [u32; TWO] = [1, 0, 0, 6, 2, 1, 0, 2, 0, 0, 6, 0, 12, 0];
-    let words: [u16; 12] = [3, 0, 6, 12, 1, 0, 2, 8, 2, 3, 5, 12];
-    show(&packed, &words);
-    let mut work = [7u32; 576];
-    show_tree(&packed, &words, 4294967289, &mut work);
-    show_tree(&packed, &words, 4294967290, &mut work);
-    let mut short = [0u32; 575];
-    show_tree(&packed, &words, 0, &mut short);
-    let top: [u32; CELL_WIDTH] = [1, 0, 0, 6, 2, 1, 0];
-    let outer: [u32; CELL_WIDTH] = [1, 3, 0, 6, 3, 2, 0];
-    let last: [u32; CELL_WIDTH] = [1, 2, 3, 2, 0, 0, 0];
-    show_cells(top, outer, [1, 1, 0, 2, 0, 0, 4], last, FOUR);
-    show_cells(top, outer, [1, 1, 0, 2, 0, 0, 0], last, FOUR);
+fn examples(rt: &impl Print) -> io::Result<()> {
+    let packed = [1, 0, 0, 6, 2, 1, 0, 2, 0, 0, 6, 0, 12, 0];
+    let words = [3, 0, 6, 12, 1, 0, 2, 8, 2, 3, 5, 12];
+    show(rt, &packed, &words)?;
+    for start in [4294967289, 4294967290] {
+        show_with(rt, &packed, &words, start, &mut [7; 576])?;
+    }
+    show_with(rt, &packed, &words, 0, &mut [0; 575])?;
+    let top = [1, 0, 0, 6, 2, 1, 0];
+    let outer = [1, 3, 0, 6, 3, 2, 0];
+    let last = [1, 2, 3, 2, 0, 0, 0];
+    show_trees(
+        rt,
+        &[
+            &[top, outer, [1, 1, 0, 2, 0, 0, 4], last],
+            &[top, outer, [1, 1, 0, 2, 0, 0, 0], last],
+        ],
+    )
 }
 
 // Links: past the last cell, back, to itself; a first child that is not the next cell; two links to one cell; a cell that nothing
 // names; a next that jumps over cells.
-fn links() {
-    let top: [u32; CELL_WIDTH] = [1, 0, 0, 0, 2, 1, 0];
-    show_cells(top, [1, 0, 0, 0, 0, 0, 3], NONE, NONE, TWO);
-    show_cells(top, [3, 0, 0, 0, 1, 1, 0], NONE, NONE, TWO);
-    show_cells(top, [3, 0, 0, 0, 0, 0, 2], NONE, NONE, TWO);
-    let jumps: [u32; CELL_WIDTH] = [1, 0, 0, 6, 3, 1, 0];
-    show_cells(
-        jumps,
-        [3, 0, 1, 5, 3, 1, 0],
-        [3, 0, 0, 5, 0, 0, 0],
-        NONE,
-        THREE,
-    );
-    let two: [u32; CELL_WIDTH] = [1, 0, 0, 0, 2, 2, 0];
-    let leaf: [u32; CELL_WIDTH] = [3, 0, 0, 0, 0, 0, 0];
-    show_cells(two, [3, 0, 0, 0, 3, 1, 3], leaf, NONE, THREE);
-    show_cells([1, 0, 0, 0, 0, 0, 0], NONE, NONE, NONE, TWO);
-    show_cells(
-        two,
-        [3, 0, 0, 0, 0, 0, 4],
-        [3, 0, 0, 0, 4, 1, 0],
-        leaf,
-        FOUR,
-    );
+fn links(rt: &impl Print) -> io::Result<()> {
+    let top = [1, 0, 0, 0, 2, 1, 0];
+    let two = [1, 0, 0, 0, 2, 2, 0];
+    let leaf = [3, 0, 0, 0, 0, 0, 0];
+    show_trees(
+        rt,
+        &[
+            &[top, [1, 0, 0, 0, 0, 0, 3]],
+            &[top, [3, 0, 0, 0, 1, 1, 0]],
+            &[top, [3, 0, 0, 0, 0, 0, 2]],
+            &[
+                [1, 0, 0, 6, 3, 1, 0],
+                [3, 0, 1, 5, 3, 1, 0],
+                [3, 0, 0, 5, 0, 0, 0],
+            ],
+            &[two, [3, 0, 0, 0, 3, 1, 3], leaf],
+            &[[1, 0, 0, 0, 0, 0, 0], [0; CELL_WIDTH]],
+            &[two, [3, 0, 0, 0, 0, 0, 4], [3, 0, 0, 0, 4, 1, 0], leaf],
+        ],
+    )
 }
 
 // The top's kind, an id of kind 3, an id of T, siblings that touch, siblings that overlap, an end past the parent's.
-fn rules() {
-    let top: [u32; CELL_WIDTH] = [1, 0, 0, 0, 2, 1, 0];
-    show_cells([3, 0, 0, 0, 0, 0, 0], NONE, NONE, NONE, CELL_WIDTH);
-    show_cells(top, [3, 1, 0, 0, 0, 0, 0], NONE, NONE, TWO);
-    show_cells(top, [1, 4, 0, 0, 0, 0, 0], NONE, NONE, TWO);
-    let two: [u32; CELL_WIDTH] = [1, 0, 0, 0, 2, 2, 0];
-    let first: [u32; CELL_WIDTH] = [1, 0, 0, 4, 0, 0, 3];
-    show_cells(two, first, [1, 0, 4, 1, 0, 0, 0], NONE, THREE);
-    show_cells(two, first, [1, 0, 3, 1, 0, 0, 0], NONE, THREE);
-    show_cells(
-        top,
-        [1, 0, 0, 4, 3, 1, 0],
-        [1, 0, 2, 3, 0, 0, 0],
-        NONE,
-        THREE,
-    );
+fn rules(rt: &impl Print) -> io::Result<()> {
+    let top = [1, 0, 0, 0, 2, 1, 0];
+    let two = [1, 0, 0, 0, 2, 2, 0];
+    let first = [1, 0, 0, 4, 0, 0, 3];
+    show_trees(
+        rt,
+        &[
+            &[[3, 0, 0, 0, 0, 0, 0]],
+            &[top, [3, 1, 0, 0, 0, 0, 0]],
+            &[top, [1, 4, 0, 0, 0, 0, 0]],
+            &[two, first, [1, 0, 4, 1, 0, 0, 0]],
+            &[two, first, [1, 0, 3, 1, 0, 0, 0]],
+            &[top, [1, 0, 0, 4, 3, 1, 0], [1, 0, 2, 3, 0, 0, 0]],
+        ],
+    )
 }
 
 // No cells, one word less than a cell; words after the last part, and no part at all; a part past the words, siblings that overlap
 // in a part, a record past its parent's end.
-fn slices() {
-    let packed: [u32; TWO] = [1, 0, 0, 6, 2, 1, 0, 2, 0, 0, 6, 0, 12, 0];
-    let mut words: [u16; 13] = [3, 0, 6, 12, 1, 0, 2, 8, 2, 3, 5, 12, 0];
-    show(&packed[..0], &words[..0]);
-    show(&packed[..CELL_WIDTH - 1], &words[..0]);
-    show(&packed, &words);
-    let alone: [u32; CELL_WIDTH] = [1, 0, 0, 6, 0, 0, 0];
-    show(&alone, &words);
-    show(&packed, &words[..8]);
-    words[9] = 1;
-    show(&packed, &words[..12]);
-    words[9] = 3;
-    words[7] = 12;
-    show(&packed, &words[..12]);
+fn slices(rt: &impl Print) -> io::Result<()> {
+    let packed = [1, 0, 0, 6, 2, 1, 0, 2, 0, 0, 6, 0, 12, 0];
+    let words = [3, 0, 6, 12, 1, 0, 2, 8, 2, 3, 5, 12, 0];
+    show(rt, &[], &[])?;
+    show(rt, &packed[..CELL_WIDTH - 1], &[])?;
+    show(rt, &packed, &words)?;
+    show(rt, &[1, 0, 0, 6, 0, 0, 0], &words)?;
+    show(rt, &packed, &words[..8])?;
+    show(rt, &packed, &[3, 0, 6, 12, 1, 0, 2, 8, 2, 1, 5, 12])?;
+    show(rt, &packed, &[3, 0, 6, 12, 1, 0, 2, 12, 2, 3, 5, 12])
 }
 
-fn main() {
-    examples();
-    links();
-    rules();
-    slices();
+fn main(rt: HostRuntime) -> io::Result<()> {
+    examples(&rt)?;
+    links(&rt)?;
+    rules(&rt)?;
+    slices(&rt)
 }

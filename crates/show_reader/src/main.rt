@@ -1,35 +1,31 @@
-// Reads document 01's P, and the list of its groups, from the last record back; writes the words of each record and the place before it.
+// Reads three lists from the last record back; writes the words of each record and the place before it.
 #![tactic(auto)]
 
 use reader::Record;
+use std::io;
 
-fn show_number(n: u64) {
-    io::print_decimal(1, n);
-    io::write_all(1, b" ");
-}
+// Three records, of which the last holds the two others.
+const P: [u32; 12] = [1, 0, 2, 4, 2, 3, 5, 4, 3, 0, 6, 12];
 
-fn show_record(read: Record) {
-    show_number(read.id as u64);
-    show_number(read.start as u64);
-    show_number(read.end as u64);
-    show_number(read.size as u64);
-    show_number(read.before as u64);
-    io::write_all(1, b"\n");
-}
+// A record that holds two groups.
+const GROUPS: [u32; 20] = [1, 0, 2, 4, 2, 0, 2, 8, 1, 2, 4, 4, 2, 2, 4, 8, 2, 0, 4, 20];
 
-fn show_list(list: &[u32]) {
-    let mut p = reader::count(list);
-    while 0 < p {
-        let read = reader::last_record(list, p);
-        show_record(read);
-        p = read.before;
+fn show_list(rt: &impl Print, list: &[u32]) -> io::Result<()> {
+    for place in (1..=reader::count(list)).rev() {
+        let Record {
+            id,
+            start,
+            end,
+            size,
+            before,
+        } = reader::last_record(list, place);
+        println!(rt; "{id} {start} {end} {size} {before} ")?;
     }
+    Ok(())
 }
 
-fn main() {
-    let p: [u32; 12] = [1, 0, 2, 4, 2, 3, 5, 4, 3, 0, 6, 12];
-    show_list(&p);
-    let groups: [u32; 20] = [1, 0, 2, 4, 2, 0, 2, 8, 1, 2, 4, 4, 2, 2, 4, 8, 2, 0, 4, 20];
-    show_list(&groups);
-    show_list(&p[..0]);
+fn main(rt: HostRuntime) -> io::Result<()> {
+    show_list(&rt, &P)?;
+    show_list(&rt, &GROUPS)?;
+    show_list(&rt, &[])
 }

@@ -1,134 +1,122 @@
 // Runs a call and prints what it answers: a listing's lines, a tree's cells, each on a line of its own.
-ghost use Rattle.std.specs.Prelude.{◌<◌};
-
-use balance::Balanced;
-use listing::Listed;
-use materialize::Materialized;
+use std::io;
 use tree::{CELL_WIDTH, LINE_WIDTH};
 
-pub fn print(text: &[u8]) {
-    io::write_all(1, text);
+// What the lent slices hold before a call.
+const BEFORE: u32 = 9;
+
+const PACKED_BEFORE: u16 = 9;
+
+// Work enough for 17 items.
+const WORK: usize = 1728;
+
+// A tree, and the numbers that it is read with: T, F and S.
+#[derive(Clone, Copy)]
+pub struct Tree<'a> {
+    pub types: u32,
+    pub first_repeat: u32,
+    pub start: u32,
+    pub cells: &'a [u32],
+    pub words: &'a [u16],
 }
 
-// A text and a number behind it.
-fn print_number(text: &[u8], number: u64) {
-    print(text);
-    io::print_decimal(1, number);
-}
-
-fn print_refusal(number: u32, place: usize) {
-    print_number(b"refused ", number as u64);
-    print_number(b" at ", place as u64);
-    print(b"\n");
-}
-
-fn wide(word: u32) -> u64 {
-    word as u64
-}
-
-// Words, so many to a line.
-fn print_rows(words: &[u32], row: usize)
-    requires { 0 < row }
-{
-    let mut i: usize = 0;
-    while i < words.len() {
-        print_number(b" ", wide(words[i]));
-        if i % row == row - 1 {
-            print(b"\n");
+impl Tree<'_> {
+    // Lists it, lending so many words of work, and of lines just those that it fills.
+    pub fn list_with(
+        self,
+        rt: &(impl Print + AllocGlobal),
+        work: usize,
+        lines: usize,
+    ) -> io::Result<()> {
+        let mut work = vec![in rt.alloc(); BEFORE; work]?;
+        let mut lines = vec![in rt.alloc(); BEFORE; lines]?;
+        let Tree {
+            types,
+            first_repeat,
+            start,
+            cells,
+            words,
+        } = self;
+        match listing::list(
+            types,
+            first_repeat,
+            start,
+            cells,
+            words,
+            &mut work,
+            &mut lines,
+        ) {
+            Ok(count) => {
+                println!(rt; "lines {count}")?;
+                text::print_rows(rt, &lines, LINE_WIDTH)
+            }
+            Err(refusal) => println!(rt; "refused {} at {}", refusal.number(), refusal.place()),
         }
-        i += 1;
+    }
+
+    // Materialises it into so many words of cells, which it fills, and lists these, which have no packed words.
+    fn materialise_and_list(
+        self,
+        rt: &(impl Print + AllocGlobal),
+        out: usize,
+        lines: usize,
+    ) -> io::Result<()> {
+        let mut work = vec![in rt.alloc(); BEFORE; WORK]?;
+        let mut out = vec![in rt.alloc(); BEFORE; out]?;
+        match materialize::materialize(self.types, self.cells, self.words, &mut work, &mut out) {
+            Ok(count) => {
+                println!(rt; "materialised cells {count}")?;
+                Tree {
+                    cells: &out,
+                    words: &[],
+                    ..self
+                }
+                .list_with(rt, WORK, lines)
+            }
+            Err(refusal) => println!(rt;
+                "materialise refused {} at {}",
+                refusal.number(),
+                refusal.place()
+            ),
+        }
+    }
+
+    // Lists it straight, then in two calls: the lines are the same.
+    pub fn list_both(
+        self,
+        rt: &(impl Print + AllocGlobal),
+        out: usize,
+        lines: usize,
+    ) -> io::Result<()> {
+        self.list_with(rt, WORK, lines)?;
+        self.materialise_and_list(rt, out, lines)
     }
 }
 
-// How many there are of what the text says.
-fn print_count(text: &[u8], count: usize) {
-    print_number(text, count as u64);
-    print(b"\n");
-}
-
-// Lists a tree: the lines fill the slice that is lent for them.
-pub fn list_with(
+// Balances a tree without packed parts into so many words of cells, which it fills, and prints these.
+pub fn balance<R: Print + AllocGlobal>(
+    rt: &R,
     types: u32,
-    first_repeat: u32,
-    start: u32,
+    none_first: bool,
     cells: &[u32],
-    words: &[u16],
-    work: &mut [u32],
-    lines: &mut [u32],
-) {
-    let answer = listing::list(types, first_repeat, start, cells, words, work, lines);
-    match answer {
-        Listed::Lines(count) => {
-            print_count(b"lines ", count);
-            print_rows(lines, LINE_WIDTH);
+    out: usize,
+) -> io::Result<Vec<u32>> {
+    let mut work = vec![in rt.alloc(); BEFORE; WORK]?;
+    let mut out = vec![in rt.alloc(); BEFORE; out]?;
+    match balance::balance(
+        types,
+        none_first,
+        cells,
+        &[],
+        &mut work,
+        &mut out,
+        &mut [PACKED_BEFORE],
+    ) {
+        Ok(written) => {
+            println!(rt; "balanced cells {}", written.cells)?;
+            text::print_rows(rt, &out, CELL_WIDTH)?;
         }
-        Listed::Refused(number, place) => print_refusal(number, place),
+        Err(refusal) => println!(rt; "refused {} at {}", refusal.number(), refusal.place())?,
     }
-}
-
-// The same, with work enough for 17 items.
-pub fn list(
-    types: u32,
-    first_repeat: u32,
-    start: u32,
-    cells: &[u32],
-    words: &[u16],
-    lines: &mut [u32],
-) {
-    let mut work = [9u32; 1728];
-    list_with(types, first_repeat, start, cells, words, &mut work, lines);
-}
-
-// Materialises a tree into cells, which fill the slice that is lent for them, and lists these, which have no packed words.
-fn materialise_and_list(
-    types: u32,
-    first_repeat: u32,
-    start: u32,
-    cells: &[u32],
-    words: &[u16],
-    out: &mut [u32],
-    lines: &mut [u32],
-) {
-    let none: [u16; 0] = [];
-    let mut work = [9u32; 1728];
-    let answer = materialize::materialize(types, cells, words, &mut work, out);
-    match answer {
-        Materialized::Cells(count) => {
-            print_count(b"materialised cells ", count);
-            list(types, first_repeat, start, out, &none, lines);
-        }
-        Materialized::Refused(number, place) => {
-            print(b"materialise ");
-            print_refusal(number, place);
-        }
-    }
-}
-
-// Lists a tree straight, then in two calls: the lines are the same.
-pub fn list_both(
-    types: u32,
-    first_repeat: u32,
-    start: u32,
-    cells: &[u32],
-    words: &[u16],
-    out: &mut [u32],
-    lines: &mut [u32],
-) {
-    list(types, first_repeat, start, cells, words, lines);
-    materialise_and_list(types, first_repeat, start, cells, words, out, lines);
-}
-
-// Balances a tree without packed parts into cells, which fill the slice that is lent for them, and prints them.
-pub fn balance(types: u32, none_first: bool, cells: &[u32], out: &mut [u32]) {
-    let none: [u16; 0] = [];
-    let mut packed = [9u16; 1];
-    let mut work = [9u32; 1728];
-    let answer = balance::balance(types, none_first, cells, &none, &mut work, out, &mut packed);
-    match answer {
-        Balanced::Cells(count, _) => {
-            print_count(b"balanced cells ", count);
-            print_rows(out, CELL_WIDTH);
-        }
-        Balanced::Refused(number, place) => print_refusal(number, place),
-    }
+    Ok(out)
 }

@@ -1,7 +1,7 @@
 -- The result of slicing case by case, in the order of its tests. Assumes nothing.
 use mathlib.Core.Path.{◌≡◌, ◌∙◌}
 use mathlib.Core.List.{List, [], ◌∷◌}
-use mathlib.Core.Option.{none, some}
+use Rattle.std.specs.Prelude.{None, Some}
 use Prim.Native.Nat.{ℕ, ◌+◌, ◌-◌, ◌*◌, ◌/◌, ◌%◌, ◌≤◌, ◌<◌}
 use native.Mathlib.Omega.{arith}
 use borrow.Author.Tests.{lt-ltb, le-ltb, eq-eqb, ne_eqb}
@@ -53,7 +53,7 @@ module _ (w : List ℕ) (types from to base : ℕ) (out : List ℕ) where
     uneven_stop a b x y = refuse 22 0 (rw (ok, le-ltb _ _ a, le-ltb _ _ b, eq-eqb _ _ x, ne_eqb _ _ y))
 
     module _ (a : from ≤ to) (b : to ≤ length w) (x : from % 4 ≡ 0) (y : to % 4 ≡ 0) where
-      pub low : (i : ℕ) → starts_below (run w from to) base ≡ some i → Refuses 23 (from + i * 4)
+      pub low : (i : ℕ) → starts_below (run w from to) base ≡ Some i → Refuses 23 (from + i * 4)
       unfolding slice_outcome
       low i h = refuse 23 (from + i * 4) (rw (ok, le-ltb _ _ a, le-ltb _ _ b, eq-eqb _ _ x, eq-eqb _ _ y, h))
 
@@ -61,7 +61,7 @@ module _ (w : List ℕ) (types from to base : ℕ) (out : List ℕ) where
       abbrev pub checked : Outcome
       checked = faults_from (rebased from 0 (run w from to)) types 0 (length (run w from to) / 4)
 
-      module _ (high : starts_below (run w from to) base ≡ none) where
+      module _ (high : starts_below (run w from to) base ≡ None) where
         pub by_cut : (number place : ℕ) → checked ≡ refused number place → Refuses number (from + place)
         unfolding slice_outcome
         by_cut number place h =
@@ -92,5 +92,5 @@ module _ (w : List ℕ) (types from to base : ℕ) (out : List ℕ) where
             unfolding slice_part sliced greatest_end
             accepts_none e =
                 let z : to - from ≡ 0 = omega arith in
-                let none : rebased from base (run w from to) ≡ [] = rebased_end from base (run w from to) (omega (arith, run_length w from to a b)) in
-                rw (counted, none, z)
+                let nothing : rebased from base (run w from to) ≡ [] = rebased_end from base (run w from to) (omega (arith, run_length w from to a b)) in
+                rw (counted, nothing, z)

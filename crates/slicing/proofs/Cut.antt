@@ -2,7 +2,7 @@
 -- Assumes nothing.
 use mathlib.Core.Path.{◌≡◌, sym, ap, ◌∙◌}
 use mathlib.Core.List.{List}
-use mathlib.Core.Option.{none}
+use Rattle.std.specs.Prelude.{None}
 use Prim.Native.Nat.{ℕ, ◌+◌, ◌-◌, ◌*◌, ◌/◌, ◌%◌, ◌≤◌, ◌<◌}
 use native.Mathlib.Omega.{arith}
 use native.Mathlib.Decide.{dec_le}
@@ -31,7 +31,7 @@ module _ (w : List ℕ) (types from to : ℕ) (counts : List ℕ) (ok : part_che
   cut_sound : (i : ℕ) → i < length (run w from to) / 4 → Sound w types (from / 4 + i)
   cut_sound i l = part_sound w types counts ok (from / 4 + i) (omega (arith, run_length w from to a b))
 
-  pub rebasable : (base room : ℕ) → starts_below (run w from to) base ≡ none → to - from ≤ room → Rebasable (run w from to) from base room
+  pub rebasable : (base room : ℕ) → starts_below (run w from to) base ≡ None → to - from ≤ room → Rebasable (run w from to) from base room
   rebasable base room low fits = record {
     starts = λ i l. ltb-false _ _ (none_from (λ (k : ℕ). ltb (start_of (run w from to) k) base) 0 (length (run w from to) / 4) low i (omega arith) (omega arith));
     order = λ i l. rw (cut_word i 1 (omega arith) l, cut_word i 2 (omega arith) l) (cut_sound i l).ordered;

@@ -5,7 +5,7 @@
 use mathlib.Core.Path.{◌≡◌, refl, sym, ap, ◌∙◌}
 use mathlib.Core.List.{List, [], ◌∷◌}
 use mathlib.Core.Bool.{Bool, false, cond}
-use mathlib.Core.Option.{Option, none, some}
+use Rattle.std.specs.Prelude.{Option, None, Some}
 use Prim.Native.Nat.{ℕ, zero, suc, ◌+◌, ◌-◌, ◌*◌, ◌/◌, ◌%◌, ◌≤◌, ◌<◌}
 use native.Mathlib.Decide.{dec_lt}
 use native.Mathlib.Omega.{arith}
@@ -26,7 +26,7 @@ use Rattle.slicing.proofs.Cut.{cut_word}
 use Rattle.part.proofs.Rebased.{At, rebased_at, rebased_length}
 
 -- a test that fails at each record is met nowhere
-none_met : (test : ℕ → Bool) (i left : ℕ) → ((j : ℕ) → i ≤ j → j < i + left → test j ≡ false) → first_from test i left ≡ none
+none_met : (test : ℕ → Bool) (i left : ℕ) → ((j : ℕ) → i ≤ j → j < i + left → test j ≡ false) → first_from test i left ≡ None
 unfolding first_from
 none_met test i zero h = refl
 none_met test i (suc left) h = rw (h i (omega arith) (omega arith)) (none_met test (i + 1) left (λ j l m. h j (omega arith) (omega arith)))
@@ -134,7 +134,7 @@ module _ (w : List ℕ) (types from to base : ℕ) (counts : List ℕ) (ok : par
 -- the whole call, where none of 1, 16 to 23 applies
 module _ (w : List ℕ) (types from to base : ℕ) (c : Cuttable w types from to base) where
   -- no record of the cut starts below the base
-  none_below : starts_below (run w from to) base ≡ none
+  none_below : starts_below (run w from to) base ≡ None
   none_below = none_met (λ i. ltb (start_of (run w from to) i) base) 0 (length (run w from to) / 4) (λ i l m. le-ltb _ _ (high i (omega arith)))
     where
       high : (i : ℕ) → i < length (run w from to) / 4 → base ≤ start_of (run w from to) i
@@ -149,8 +149,8 @@ module _ (w : List ℕ) (types from to base : ℕ) (c : Cuttable w types from to
       go (outside (run w from to) to) (sym (rebased_check w types from to base _ c.part c.in_order c.inside c.whole_from c.whole_to) ∙ h)
     where
       go : (o : Option ℕ) → unless_found 19 (λ i. i * 4) o (accepted (part_counts (rebased from base (run w from to)))) ≡ refused number place → number ≡ 19
-      go none h = absurd (never number place _ (sym h))
-      go (some i) h = cc
+      go None h = absurd (never number place _ (sym h))
+      go (Some i) h = cc
 
   -- the outcome by the second bound: 19 at the first record that ends past it, then 13
   abbrev by_bound : (room : ℕ) → Outcome
@@ -178,8 +178,8 @@ module _ (w : List ℕ) (types from to base : ℕ) (c : Cuttable w types from to
       go : (o : Option ℕ)
           → unless_refused (in_source from (unless_found 19 (λ i. i * 4) o (accepted (part_counts (rebased from base (run w from to)))))) later
           ≡ unless_found 19 (λ i. from + i * 4) o later
-      go none = refl
-      go (some i) = refl
+      go None = refl
+      go (Some i) = refl
 
   -- the same of the whole call, whose output is unchanged where it refuses
   pub call_nineteen_exactly : (out : List ℕ) → slice_part w types from to base out ≡ settled (by_bound (length out)) (front (sliced w from to base) out ∷ []) (out ∷ [])

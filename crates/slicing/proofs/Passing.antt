@@ -2,7 +2,7 @@
 use mathlib.Core.Path.{◌≡◌, refl, ◌∙◌}
 use mathlib.Core.List.{List, [], ◌∷◌}
 use mathlib.Core.Bool.{not}
-use mathlib.Core.Option.{Option, none, some}
+use Rattle.std.specs.Prelude.{Option, None, Some}
 use Prim.Native.Nat.{ℕ, ◌+◌, ◌-◌, ◌*◌, ◌/◌, ◌%◌, ◌≤◌}
 use native.Mathlib.Omega.{arith}
 use borrow.Author.Tests.{ltb-false}
@@ -23,8 +23,8 @@ unrefused (accepted told) next counts h = ((told, refl), h)
 unrefused (refused number place) next counts h = absurd (never number place counts h)
 
 not_found : (number : ℕ) (place : ℕ → ℕ) (o : Option ℕ) (next : Outcome) (counts : List ℕ) → unless_found number place o next ≡ accepted counts → next ≡ accepted counts
-not_found number place none next counts h = h
-not_found number place (some i) next counts h = absurd (never number (place i) counts h)
+not_found number place None next counts h = h
+not_found number place (Some i) next counts h = absurd (never number (place i) counts h)
 
 in_place : (from : ℕ) (o : Outcome) (counts : List ℕ) → in_source from o ≡ accepted counts → o ≡ accepted counts
 in_place from (accepted told) counts h = h

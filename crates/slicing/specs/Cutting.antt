@@ -1,7 +1,7 @@
 -- 19 on the cut part, by the second bound. That the part check of the rebased cut answers just that is `nineteen_exactly` in
 -- proofs/NineteenExactly. No function cites this.
 use Rattle.std.specs.Prelude.{ℕ, ◌*◌, ◌/◌, ◌%◌, ◌≤◌, ◌<◌, ◌≡◌, List, ltb, length}
-use Rattle.std.proofs.Math.Option.{Option}
+use Rattle.std.specs.Prelude.{Option}
 use Rattle.words.specs.Outcome.{accepted}
 use Rattle.words.specs.Words.{start_of, record_width}
 use Rattle.words.specs.First.{first_from}

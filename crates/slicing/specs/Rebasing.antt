@@ -2,8 +2,6 @@
 use Rattle.std.specs.Prelude.{ℕ, ◌/◌, ◌≤◌, ◌<◌, List, length}
 use Rattle.words.specs.Words.{start_of, end_of, record_width}
 use Rattle.part.specs.Part.{end_index}
-use Rattle.part.specs.declared.Checked.{Checked}
-use Rattle.part.specs.declared.Checked.TheVariants.{Records, Refused}
 
 -- a cut of whole records none of which starts below the base or ends before the cut, with room for the result
 pub record Rebasable (cut : List ℕ) (from base room : ℕ) : Type 0 where
@@ -11,8 +9,3 @@ pub record Rebasable (cut : List ℕ) (from base room : ℕ) : Type 0 where
   pub order : (i : ℕ) → i < length cut / record_width → start_of cut i ≤ end_of cut i
   pub after : (i : ℕ) → i < length cut / record_width → from ≤ end_index cut i
   pub fits : length cut ≤ room
-
--- the greatest end that the check of a cut told; 0 where it was refused
-abbrev pub greatest_of : Checked → ℕ
-greatest_of (Records n greatest deepest) = greatest
-greatest_of (Refused number place) = 0

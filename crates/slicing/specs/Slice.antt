@@ -1,6 +1,6 @@
 -- Slicing a packed part, as document 01 has it: the part check, 21, 22, 23, 19 on the cut part, 13.
 use Rattle.std.specs.Prelude.{ℕ, ◌+◌, ◌-◌, ◌*◌, ◌/◌, ◌%◌, List, [], ◌∷◌, cond, not, length, ltb, eqb}
-use Rattle.std.proofs.Math.Option.{Option}
+use Rattle.std.specs.Prelude.{Option}
 use Rattle.words.specs.Outcome.{Outcome, accepted, refused, unless_refused, unless_found, Result, settled}
 use Rattle.words.specs.Words.{start_of, run, front, record_width}
 use Rattle.words.specs.First.{first_from}

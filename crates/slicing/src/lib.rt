@@ -2,38 +2,32 @@
 #![tactic(auto)]
 
 ghost use Rattle.std.specs.Prelude.{◌≡◌, [], ◌∷◌, length};
-ghost use Rattle.words.specs.Answer.{place_found};
 ghost use Rattle.words.specs.Words.{front};
+ghost use Rattle.words.specs.Refusal.{answered};
 ghost use Rattle.part.specs.Rebased.{rebased};
 ghost use Rattle.slicing.specs.Slice.{starts_below, slice_part};
-ghost use Rattle.slicing.specs.Rebasing.{Rebasable, greatest_of};
-ghost use Rattle.slicing.specs.Answer.{sliced_outcome};
+ghost use Rattle.slicing.specs.Rebasing.{Rebasable};
+ghost use Rattle.slicing.specs.Answer.{slice_counts};
 
-use part::Checked;
-use words::{Found, RECORD_WIDTH};
+use words::{RECORD_WIDTH, Refusal};
 
-// What slicing answers.
-#[derive(Clone, Copy)]
-pub enum Sliced {
-    // Accepted, with the number of words written and the slice's length.
-    Words(usize, u16),
-    // The refusal's number, and the word offset of the record at fault or 0.
-    Refused(u32, usize),
+// What an accepted slice has: how many words are written, and its length.
+#[derive(Clone, Copy, Debug, PartialEq, Eq)]
+pub struct Sliced {
+    pub words: usize,
+    pub length: u16,
 }
 
 // 23: the first record of the cut that starts below the base.
-fn starts_below(cut: &[u16], base: u32) -> Found
-    ensures { place_found result ≡ starts_below cut.now base }
+fn starts_below(cut: &[u16], base: u32) -> Option<usize>
+    ensures { result ≡ starts_below cut.now base }
 {
-    let records = cut.len() / RECORD_WIDTH;
-    let mut i: usize = 0;
-    while i < records {
-        if words::word(cut[i * RECORD_WIDTH + 1]) < base {
-            return Found::At(i);
+    for i in 0..cut.len() / RECORD_WIDTH {
+        if u32::from(cut[i * RECORD_WIDTH + 1]) < base {
+            return Some(i);
         }
-        i += 1;
     }
-    Found::Nothing
+    None
 }
 
 // Rebases a cut's records into the front of `out`.
@@ -41,9 +35,7 @@ fn rebase(cut: &[u16], from: u16, base: u16, out: &mut [u16])
     requires { Rebasable cut.now from base (length out.old) }
     ensures { out.new ≡ front (rebased from base cut.now) out.old }
 {
-    let records = cut.len() / RECORD_WIDTH;
-    let mut i: usize = 0;
-    while i < records {
+    for i in 0..cut.len() / RECORD_WIDTH {
         words::put_record(
             out,
             i * RECORD_WIDTH,
@@ -52,21 +44,6 @@ fn rebase(cut: &[u16], from: u16, base: u16, out: &mut [u16])
             cut[i * RECORD_WIDTH + 2] - base,
             cut[i * RECORD_WIDTH + 3] - from,
         );
-        i += 1;
-    }
-}
-
-// The greatest end in a cut that passed its check.
-fn greatest_of(checked: Checked) -> u16
-    ensures { result ≡ greatest_of checked }
-{
-    match checked {
-        Checked::Records(_, greatest, _) => {
-            return greatest;
-        }
-        Checked::Refused(_, _) => {
-            return 0;
-        }
     }
 }
 
@@ -79,39 +56,42 @@ pub fn slice(
     to: usize,
     base: u32,
     out: &mut [u16],
-) -> Sliced
-    ensures { record { outcome = sliced_outcome result; outputs = out.new ∷ [] } ≡ slice_part words.now types from to base out.old }
+) -> Result<Sliced, Refusal>
+    ensures { record { outcome = answered slice_counts result; outputs = out.new ∷ [] } ≡ slice_part words.now types from to base out.old }
 {
-    let checked = part::part_check(words, types);
-    if let Checked::Refused(number, place) = checked {
-        return Sliced::Refused(number, place);
-    }
+    part::part_check(words, types)?;
     if to < from {
-        return Sliced::Refused(21, 0);
+        return Err(Refusal::Bounds);
     }
     if words.len() < to {
-        return Sliced::Refused(21, 0);
+        return Err(Refusal::Bounds);
     }
     if from % RECORD_WIDTH != 0 {
-        return Sliced::Refused(22, 0);
+        return Err(Refusal::UnevenBounds);
     }
     if to % RECORD_WIDTH != 0 {
-        return Sliced::Refused(22, 0);
+        return Err(Refusal::UnevenBounds);
     }
     let cut = &words[from..to];
-    if let Found::At(at) = starts_below(cut, base) {
-        return Sliced::Refused(23, from + at * RECORD_WIDTH);
+    if let Some(i) = starts_below(cut, base) {
+        return Err(Refusal::BaseAbove(from + i * RECORD_WIDTH));
     }
-    let within = part::check_cut(cut, types, from as u16);
-    if let Checked::Refused(number, place) = within {
-        return Sliced::Refused(number, from + place);
-    }
+    let figures = match part::check_cut(cut, types, from as u16) {
+        Ok(figures) => figures,
+        Err(bad) => return Err(Refusal::Packed(bad.fault, from + bad.at)),
+    };
     if out.len() < to - from {
-        return Sliced::Refused(13, 0);
+        return Err(Refusal::LittleWords);
     }
     if from == to {
-        return Sliced::Words(0, 0);
+        return Ok(Sliced {
+            words: 0,
+            length: 0,
+        });
     }
     rebase(cut, from as u16, base as u16, out);
-    Sliced::Words(to - from, greatest_of(within) - base as u16)
+    Ok(Sliced {
+        words: to - from,
+        length: figures.greatest - base as u16,
+    })
 }

@@ -1,8 +1,8 @@
 -- Laws of trees held in a store: they stay where their words stay, and what their nodes tell. Assumes nothing.
-use mathlib.Core.Path.{◌≡◌, refl, sym, subst, ◌∙◌, ap}
+use mathlib.Core.Path.{◌≡◌, refl, sym, subst, ◌∙◌}
 use mathlib.Core.List.{List, [], ◌∷◌}
 use mathlib.Core.Bool.{Bool, true, false, cond}
-use mathlib.Core.Option.{Option}
+use Rattle.std.specs.Prelude.{Option}
 use Prim.Native.Nat.{ℕ, zero, suc, ◌+◌, ◌-◌, min, max, ◌≤◌, ◌<◌}
 use native.Mathlib.Omega.{arith}
 use borrow.Author.Tests.{eq-eqb, ne_eqb}
@@ -225,28 +225,32 @@ module _ (f : Bool) (w : List ℕ) (top : ℕ) (room : top + 10 ≤ length w) (b
           next = rw (at 5 (omega arith)) (frame f w w₁ base top low (top + 10) low (omega arith) (omega arith) kept n rest hn);
         }
 
-module _ (w w' : List ℕ) (top k i s l a n : ℕ) (room : top + 10 ≤ length w) where
-  pub pushed_tree : (at t₁ t₂ t₃ t₄ t₅ x₁ x y z a₁ a₂ a₃ o : ℕ) → at ≡ top → w' ≡ put w at (k ∷ i ∷ s ∷ l ∷ a ∷ n ∷ x ∷ y ∷ z ∷ o ∷ [])
-      → t₁ ≡ told w a 6 → t₂ ≡ told w n 6 → t₃ ≡ told w a 7 → t₄ ≡ told w n 7 → t₅ ≡ told w n 8
-      → x₁ ≡ word (t₁ + t₂) → x ≡ word (x₁ + 1) → y ≡ word (t₃ + t₄) → z ≡ word (t₅ + 1)
-      → a₁ ≡ liked w a k i → a₂ ≡ max 1 a₁ → a₃ ≡ liked w n k i → o ≡ liked_on a₂ a₃
+module _ (w w' : List ℕ) (top k i s l a n x y z o : ℕ) (room : top + 10 ≤ length w) where
+  abbrev pushed : List ℕ
+  pushed = put w top (k ∷ i ∷ s ∷ l ∷ a ∷ n ∷ x ∷ y ∷ z ∷ o ∷ [])
+
+  pushed_kept : w' ≡ pushed → Same w w' 0 top (top + 10)
+  pushed_kept e = rw e (same_put w top (k ∷ i ∷ s ∷ l ∷ a ∷ n ∷ x ∷ y ∷ z ∷ o ∷ []) room)
+
+  pub pushed_tree : w' ≡ pushed
+      → x ≡ word (word (told w a 6 + told w n 6) + 1) → y ≡ word (told w a 7 + told w n 7) → z ≡ word (told w n 8 + 1)
+      → o ≡ liked_on (max 1 (liked w a k i)) (liked w n k i)
       → PushedTree w w' top k i s l a n top
-  pushed_tree at t₁ t₂ t₃ t₄ t₅ x₁ x y z a₁ a₂ a₃ o e₀ e e₁ e₂ e₃ e₄ e₅ f₁ f₂ f₃ f₄ g₁ g₂ g₃ g₄ = record {
+  pushed_tree e ex ey ez eo = record {
     address = refl;
-    kept = rw (e, e₀) (same_put w top (k ∷ i ∷ s ∷ l ∷ a ∷ n ∷ x ∷ y ∷ z ∷ o ∷ []) room);
+    kept = pushed_kept e;
     holds = λ f base low t ks rest live above free ek ei ha hn.
-        subst (λ (v : List ℕ). Holds f v base (top + 10) low top (tree t s l ks rest)) (sym (e ∙ ap (λ (q : ℕ). put w q (k ∷ i ∷ s ∷ l ∷ a ∷ n ∷ x ∷ y ∷ z ∷ o ∷ [])) e₀)) (new_tree f w top room base low live above free k i s l a n x y z o t ks rest ek ei ha hn (omega arith) (omega arith) (omega arith) (g₄ ∙ rw (g₂, g₁, g₃)));
+        subst (λ (v : List ℕ). Holds f v base (top + 10) low top (tree t s l ks rest)) (sym e) (new_tree f w top room base low live above free k i s l a n x y z o t ks rest ek ei ha hn ex ey ez eo);
   }
 
-  pub pushed_part : (at t₂ t₄ t₅ x y z : ℕ) → at ≡ top → w' ≡ put w at (2 ∷ i ∷ s ∷ l ∷ a ∷ n ∷ x ∷ y ∷ z ∷ 0 ∷ [])
-      → t₂ ≡ told w n 6 → t₄ ≡ told w n 7 → t₅ ≡ told w n 8
-      → x ≡ word (t₂ + 1) → y ≡ word (i + t₄) → z ≡ word (t₅ + 1)
+  pub pushed_part : w' ≡ pushed → k ≡ 2 → o ≡ 0
+      → x ≡ word (told w n 6 + 1) → y ≡ word (i + told w n 7) → z ≡ word (told w n 8 + 1)
       → PushedPart w w' top s l a i n top
-  pushed_part at t₂ t₄ t₅ x y z e₀ e e₂ e₄ e₅ f₂ f₃ f₄ = record {
+  pushed_part e ek eo ex ey ez = record {
     address = refl;
-    kept = rw (e, e₀) (same_put w top (2 ∷ i ∷ s ∷ l ∷ a ∷ n ∷ x ∷ y ∷ z ∷ 0 ∷ []) room);
+    kept = pushed_kept e;
     holds = λ f base low ws rest live above free ei ha hn.
-        subst (λ (v : List ℕ). Holds f v base (top + 10) low top (part s l ws rest)) (sym (e ∙ ap (λ (q : ℕ). put w q (2 ∷ i ∷ s ∷ l ∷ a ∷ n ∷ x ∷ y ∷ z ∷ 0 ∷ [])) e₀)) (new_part f w top room base low live above free 2 i s l a n x y z 0 ws rest refl refl ei ha hn (omega arith) (omega arith) (omega arith));
+        subst (λ (v : List ℕ). Holds f v base (top + 10) low top (part s l ws rest)) (sym e) (new_part f w top room base low live above free k i s l a n x y z o ws rest ek eo ei ha hn ex ey ez);
   }
 
 pub staged_more : (w : List ℕ) (low x a r : ℕ) → 1 ≤ low → low ≤ length w → x < 65536 → r ≡ low - 1 → a ≡ r → StagedMore w (set w a x) low x r

@@ -1,8 +1,7 @@
-pub mod Puts
 pub mod Types
 pub mod Unique
 pub mod Frame
-pub mod Cell
+pub mod Counts
 pub mod Flow
 pub mod Writer
 pub mod Top

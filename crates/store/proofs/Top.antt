@@ -2,7 +2,7 @@
 use mathlib.Core.Path.{subst, ◌≡◌, refl, ap, sym}
 use mathlib.Core.List.{List, append-nil}
 use mathlib.Core.Bool.{false}
-use mathlib.Core.Option.{Option, some}
+use Rattle.std.specs.Prelude.{Option, Some}
 use Prim.Native.Nat.{ℕ, suc, ◌+◌}
 use native.Mathlib.Omega.{arith}
 use lib.ListN.{length}
@@ -23,19 +23,19 @@ unfolding packed
 same_words t s l kids = append-nil (packed kids)
 
 module _ (w w₁ : List ℕ) (top id s l kids root top₁ : ℕ) (q : PushedTree w w₁ top 1 id s l kids 0 root) (e : top₁ ≡ top + 10) where
-  root_holds : (room wide : ℕ) (p : TopReady w top kids room wide) → Holds false w₁ p.base top₁ p.low root (tree (some id) s l p.trees nil)
+  root_holds : (room wide : ℕ) (p : TopReady w top kids room wide) → Holds false w₁ p.base top₁ p.low root (tree (Some id) s l p.trees nil)
   unfolding kind id_word
-  root_holds room wide p = subst (λ (x : ℕ). Holds false w₁ p.base x p.low root (tree (some id) s l p.trees nil)) (sym e) (q.holds false p.base p.low (some id) p.trees nil p.live p.above (omega (arith, p.free)) refl refl p.holds refl)
+  root_holds room wide p = subst (λ (x : ℕ). Holds false w₁ p.base x p.low root (tree (Some id) s l p.trees nil)) (sym e) (q.holds false p.base p.low (Some id) p.trees nil p.live p.above (omega (arith, p.free)) refl refl p.holds refl)
 
   pub top_writable : (room wide : ℕ) → TopReady w top kids room wide → Writable w₁ top₁ root room wide
   top_writable room wide p =
-      let n = one_more (some id) s l p.trees in
-      let m = same_words (some id) s l p.trees in
+      let n = one_more (Some id) s l p.trees in
+      let m = same_words (Some id) s l p.trees in
       record {
         none_first = false;
         base = p.base;
         low = p.low;
-        trees = tree (some id) s l p.trees nil;
+        trees = tree (Some id) s l p.trees nil;
         holds = root_holds room wide p;
         free = omega (arith, n, p.free);
         inside = omega (arith, p.inside, q.kept.size);
@@ -47,6 +47,6 @@ module _ (w w₁ : List ℕ) (top id s l kids root top₁ : ℕ) (q : PushedTree
 
   pub top_wrote : (out out' words words' : List ℕ) → Wrote w₁ top₁ root s out out' words words' → TopWrote w top id s l kids out out' words words'
   top_wrote out out' words words' h = record {
-    cells_out = λ p. h.cells_out false p.base p.low (tree (some id) s l p.trees nil) (root_holds _ _ p);
-    words_out = λ p. rw (same_words (some id) s l p.trees) at (h.words_out false p.base p.low (tree (some id) s l p.trees nil) (root_holds _ _ p));
+    cells_out = λ p. h.cells_out false p.base p.low (tree (Some id) s l p.trees nil) (root_holds _ _ p);
+    words_out = λ p. rw (same_words (Some id) s l p.trees) at (h.words_out false p.base p.low (tree (Some id) s l p.trees nil) (root_holds _ _ p));
   }

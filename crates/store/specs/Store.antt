@@ -1,6 +1,6 @@
 -- Trees held in the words of a store. Only internal functions cite these.
 use Rattle.std.specs.Prelude.{◌≡◌, List, [], ◌∷◌, Bool, true, false, cond, ℕ, zero, suc, ◌+◌, ◌-◌, ◌*◌, ◌%◌, min, ◌≤◌, ◌<◌, eqb}
-use Rattle.std.proofs.Math.Option.{Option, none, some}
+use Rattle.std.specs.Prelude.{Option, None, Some}
 use lib.ListN.{length, get_or, drop}
 use Rattle.std.proofs.Math.Seq.{paste}
 use Rattle.words.specs.Words.{put, front}
@@ -24,9 +24,9 @@ first_of_set = 7
 -- place 0 of the set is none; its cell still has kind 1.
 abbrev pub kind_under : (none_first : Bool) → Option ℕ → ℕ
 kind_under false t = kind t
-kind_under true none = 3
-kind_under true (some zero) = first_of_set
-kind_under true (some (suc i)) = 1
+kind_under true None = 3
+kind_under true (Some zero) = first_of_set
+kind_under true (Some (suc i)) = 1
 
 abbrev pub stored_kind : SetType → ℕ
 stored_kind t = kind_under t.none_first t.type
@@ -228,5 +228,5 @@ pub record TopReady (w : List ℕ) (top kids room wide : ℕ) : Type 0 where
 
 -- the whole tree's cells and words
 pub record TopWrote (w : List ℕ) (top id s l kids : ℕ) (out out' words words' : List ℕ) : Type 0 where
-  pub cells_out : (p : TopReady w top kids (length out) (length words)) → out' ≡ front (tree_cells s (tree (some id) s l p.trees nil)) out
+  pub cells_out : (p : TopReady w top kids (length out) (length words)) → out' ≡ front (tree_cells s (tree (Some id) s l p.trees nil)) out
   pub words_out : (p : TopReady w top kids (length out) (length words)) → words' ≡ front (packed p.trees) words

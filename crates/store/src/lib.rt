@@ -8,9 +8,9 @@ ghost use lib.ListN.{length, get_or, drop};
 ghost use Rattle.std.proofs.Math.Seq.{paste};
 ghost use Rattle.tree.specs.Cells.{cell_width};
 ghost use Rattle.words.specs.Words.{put};
-ghost use Rattle.store.specs.Store.{told, typed, kind_written, liked, liked_on, word, Readable, PushedTree, PushedPart, StagedMore, tree_cell, PartReady, PartWritten, Writable, Wrote, TopReady, TopWrote, node_width, node_first, node_cells_place};
+ghost use Rattle.store.specs.Store.{told, typed, kind_written, liked, liked_on, word, Readable, PushedTree, PushedPart, StagedMore, tree_cell, PartReady, PartWritten, Writable, Wrote, TopReady, TopWrote, node_width, node_kind, node_id, node_start, node_length, node_first, node_next, node_cells_place};
 
-use tree::CELL_WIDTH;
+use tree::{CELL_WIDTH, Cell};
 
 // How many words a node has.
 pub const NODE_WIDTH: u32 = 10;
@@ -36,43 +36,21 @@ pub const NODE_TREES: usize = 8;
 
 pub const NODE_LIKE: usize = 9;
 
-// The kind of trees of `NodeType::none`, and the kind of a node that stands for a tree of id 0 where place 0 of the set is none.
-pub const NONE: u32 = 3;
+// A node's type by its kind and id: kind 1 with any id, 3 with id 0 for none, `FIRST_OF_SET` with id 0.
+#[derive(Clone, Copy)]
+pub struct NodeType {
+    pub kind: u32,
+    pub id: u32,
+}
 
+// The type of trees that have none.
+pub const NONE: NodeType = NodeType { kind: 3, id: 0 };
+
+// The kind of a node that stands for a tree of id 0 where place 0 of the set is none.
 pub const FIRST_OF_SET: u32 = 7;
 
-// Kinds that are equal modulo this compare as equal: `FIRST_OF_SET` as `NONE`, any other as itself alone.
+// Kinds that are equal modulo this compare as equal: `FIRST_OF_SET` as that of `NONE`, any other as itself alone.
 const KINDS: u32 = 4;
-
-// A node's words from an address on.
-fn put_node(
-    work: &mut [u32],
-    at: usize,
-    kind: u32,
-    id: u32,
-    start: u32,
-    length: u32,
-    first: u32,
-    next: u32,
-    cells: u32,
-    words: u32,
-    trees: u32,
-    like: u32,
-)
-    requires { at + node_width ≤ lib.ListN.length work.old }
-    ensures { work.new ≡ put work.old at (kind ∷ id ∷ start ∷ length ∷ first ∷ next ∷ cells ∷ words ∷ trees ∷ like ∷ []) }
-{
-    work[at + NODE_KIND] = kind;
-    work[at + NODE_ID] = id;
-    work[at + NODE_START] = start;
-    work[at + NODE_LENGTH] = length;
-    work[at + NODE_FIRST] = first;
-    work[at + NODE_NEXT] = next;
-    work[at + NODE_CELLS] = cells;
-    work[at + NODE_WORDS] = words;
-    work[at + NODE_TREES] = trees;
-    work[at + NODE_LIKE] = like;
-}
 
 // Word k of a node, 0 where there is none.
 pub fn tell(work: &[u32], node: u32, k: usize) -> u32
@@ -83,53 +61,63 @@ pub fn tell(work: &[u32], node: u32, k: usize) -> u32
     if node == 0 {
         return 0;
     }
-    work[words::index(node) + k]
+    work[node as usize + k]
 }
 
-// A sum, at most the largest word.
-pub fn sum(a: u32, b: u32) -> u32
-    ensures { result ≡ word (a + b) }
-{
-    if u32::MAX - a < b {
-        return u32::MAX;
-    }
-    a + b
+// What a node says of its own tree. A part has kind 2; its id is how many words it has, and `first` where they stand.
+#[derive(Clone, Copy)]
+pub struct Node {
+    pub own: NodeType,
+    pub start: u32,
+    pub length: u32,
+    pub first: u32,
+    pub next: u32,
 }
 
-// Is a node's type the one of this kind and id?
-pub fn same_type(work: &[u32], node: u32, kind: u32, id: u32) -> bool
+// A node's words up to the next sibling's address.
+pub fn node_at(work: &[u32], node: u32) -> Node
     requires { node + node_width ≤ length work.now }
-    ensures { result ≡ typed work.now node kind id }
+    ensures kind { result.own.kind ≡ node_kind work.now node }
+    ensures id { result.own.id ≡ node_id work.now node }
+    ensures start { result.start ≡ node_start work.now node }
+    ensures length { result.length ≡ node_length work.now node }
+    ensures first { result.first ≡ node_first work.now node }
+    ensures next { result.next ≡ node_next work.now node }
 {
-    let n = words::index(node);
-    if work[n + NODE_KIND] % KINDS != kind % KINDS {
-        return false;
+    let n = node as usize;
+    Node {
+        own: NodeType {
+            kind: work[n + NODE_KIND],
+            id: work[n + NODE_ID],
+        },
+        start: work[n + NODE_START],
+        length: work[n + NODE_LENGTH],
+        first: work[n + NODE_FIRST],
+        next: work[n + NODE_NEXT],
     }
-    id == work[n + NODE_ID]
+}
+
+// Is a node's type this one?
+pub fn same_type(work: &[u32], node: u32, own: NodeType) -> bool
+    requires { node + node_width ≤ length work.now }
+    ensures { result ≡ typed work.now node own.kind own.id }
+{
+    let n = node as usize;
+    work[n + NODE_KIND] % KINDS == own.kind % KINDS && work[n + NODE_ID] == own.id
 }
 
 // One more than a list's balanced size where all its trees have this type, else 0.
-pub fn like(work: &[u32], node: u32, kind: u32, id: u32) -> u32
+pub fn like(work: &[u32], node: u32, own: NodeType) -> u32
     requires { Readable work.now node }
-    ensures { result ≡ liked work.now node kind id }
+    ensures { result ≡ liked work.now node own.kind own.id }
 {
     if node == 0 {
         return 1;
     }
-    if same_type(work, node, kind, id) {
-        return work[words::index(node) + NODE_LIKE];
+    if same_type(work, node, own) {
+        return work[node as usize + NODE_LIKE];
     }
     0
-}
-
-// The balanced size of a tree of the balance type, by what is told of its children.
-pub fn at_least_one(a: u32) -> u32
-    ensures { result ≡ max 1 a }
-{
-    if a == 0 {
-        return 1;
-    }
-    a
 }
 
 // What is told of a tree of this size before a list of which `b` is told.
@@ -139,15 +127,14 @@ fn like_on(size: u32, b: u32) -> u32
     if b == 0 {
         return 0;
     }
-    sum(size, b)
+    size.saturating_add(b)
 }
 
 // A tree over the list `kids`, before the list `next`.
 pub fn push_tree(
     work: &mut [u32],
     top: u32,
-    kind: u32,
-    id: u32,
+    own: NodeType,
     start: u32,
     length: u32,
     kids: u32,
@@ -156,27 +143,21 @@ pub fn push_tree(
     requires node_width_bound { top + node_width ≤ lib.ListN.length work.old }
     requires readable { Readable work.old kids }
     requires readable_2 { Readable work.old next }
-    ensures { PushedTree work.old work.new top kind id start length kids next result }
+    ensures { PushedTree work.old work.new top own.kind own.id start length kids next result }
 {
-    let cells = sum(tell(work, kids, NODE_CELLS), tell(work, next, NODE_CELLS));
-    let cells = sum(cells, 1);
-    let words = sum(tell(work, kids, NODE_WORDS), tell(work, next, NODE_WORDS));
-    let trees = sum(tell(work, next, NODE_TREES), 1);
-    let size = at_least_one(like(work, kids, kind, id));
-    let own = like_on(size, like(work, next, kind, id));
-    put_node(
+    let cells = tell(work, kids, NODE_CELLS)
+        .saturating_add(tell(work, next, NODE_CELLS))
+        .saturating_add(1);
+    let words = tell(work, kids, NODE_WORDS).saturating_add(tell(work, next, NODE_WORDS));
+    let trees = tell(work, next, NODE_TREES).saturating_add(1);
+    let size = like(work, kids, own).max(1);
+    let sizes = like_on(size, like(work, next, own));
+    words::put(
         work,
-        words::index(top),
-        kind,
-        id,
-        start,
-        length,
-        kids,
-        next,
-        cells,
-        words,
-        trees,
-        own,
+        top as usize,
+        &[
+            own.kind, own.id, start, length, kids, next, cells, words, trees, sizes,
+        ],
     );
     top
 }
@@ -195,22 +176,13 @@ pub fn push_part(
     requires readable { Readable work.old next }
     ensures { PushedPart work.old work.new top start length from count next result }
 {
-    let cells = sum(tell(work, next, NODE_CELLS), 1);
-    let words = sum(count, tell(work, next, NODE_WORDS));
-    let trees = sum(tell(work, next, NODE_TREES), 1);
-    put_node(
+    let cells = tell(work, next, NODE_CELLS).saturating_add(1);
+    let words = count.saturating_add(tell(work, next, NODE_WORDS));
+    let trees = tell(work, next, NODE_TREES).saturating_add(1);
+    words::put(
         work,
-        words::index(top),
-        2,
-        count,
-        start,
-        length,
-        from,
-        next,
-        cells,
-        words,
-        trees,
-        0,
+        top as usize,
+        &[2, count, start, length, from, next, cells, words, trees, 0],
     );
     top
 }
@@ -222,7 +194,7 @@ pub fn stage(work: &mut [u32], low: u32, x: u16) -> u32
     ensures { StagedMore work.old work.new low x result }
 {
     let at = low - 1;
-    work[words::index(at)] = x as u32;
+    work[at as usize] = u32::from(x);
     at
 }
 
@@ -238,16 +210,13 @@ fn link(node: u32, number: usize) -> u32
 }
 
 // Copies words of 16 bits that stand in words of 32.
-fn copy_words(work: &[u32], from: usize, count: usize, out: &mut [u16], at: usize)
-    requires count_in_bounds { from + count ≤ length work.now }
-    requires count_in_bounds_2 { at + count ≤ length out.old }
-    requires by_index { (k : ℕ) → k < count → get_or work.now (from + k) 0 < 65536 }
-    ensures { out.new ≡ paste out.old at (drop from work.now) count }
+fn copy_words(words: &[u32], out: &mut [u16])
+    requires same_length { length words.now ≡ length out.old }
+    requires narrow { (k : ℕ) → k < length words.now → get_or words.now k 0 < 65536 }
+    ensures { out.new ≡ words.now }
 {
-    let mut i: usize = 0;
-    while i < count {
-        out[at + i] = work[from + i] as u16;
-        i += 1;
+    for (i, x) in words.iter().enumerate() {
+        out[i] = *x as u16;
     }
 }
 
@@ -271,22 +240,16 @@ fn write_tree(work: &[u32], n: usize, from: u32, out: &mut [u32], cell: usize)
 {
     let kids = work[n + NODE_FIRST];
     let below = tell(work, kids, NODE_CELLS);
-    let first = link(kids, cell + 2);
-    let count = tell(work, kids, NODE_TREES);
-    let next = link(work[n + NODE_NEXT], cell + 2 + words::index(below));
-    let start = words::less(work[n + NODE_START], from);
-    let kind = kind_written(work[n + NODE_KIND]);
-    tree::put_cell(
-        out,
-        cell * CELL_WIDTH,
-        kind,
-        work[n + NODE_ID],
-        start,
-        work[n + NODE_LENGTH],
-        first,
-        count,
-        next,
-    );
+    let made = Cell {
+        kind: kind_written(work[n + NODE_KIND]),
+        id: work[n + NODE_ID],
+        position: work[n + NODE_START].saturating_sub(from),
+        length: work[n + NODE_LENGTH],
+        first: link(kids, cell + 2),
+        count: tell(work, kids, NODE_TREES),
+        next: link(work[n + NODE_NEXT], cell + 2 + below as usize),
+    };
+    tree::put_cell(out, cell * CELL_WIDTH, made);
 }
 
 // The cell of the part at n, after `cell` others, and its words, after `word` others: how many.
@@ -302,31 +265,20 @@ fn write_part(
     requires { PartReady work.now n cell (length out.old) word (length words.old) }
     ensures { PartWritten work.now n from cell word out.old out.new words.old words.new result }
 {
-    let count = words::index(work[n + NODE_ID]);
-    copy_words(work, words::index(work[n + NODE_FIRST]), count, words, word);
-    let next = link(work[n + NODE_NEXT], cell + 2);
-    let start = words::less(work[n + NODE_START], from);
-    tree::put_cell(
-        out,
-        cell * CELL_WIDTH,
-        2,
-        0,
-        start,
-        work[n + NODE_LENGTH],
-        word as u32,
-        work[n + NODE_ID],
-        next,
-    );
+    let first = work[n + NODE_FIRST] as usize;
+    let count = work[n + NODE_ID] as usize;
+    copy_words(&work[first..first + count], &mut words[word..word + count]);
+    let made = Cell {
+        kind: 2,
+        id: 0,
+        position: work[n + NODE_START].saturating_sub(from),
+        length: work[n + NODE_LENGTH],
+        first: word as u32,
+        count: work[n + NODE_ID],
+        next: link(work[n + NODE_NEXT], cell + 2),
+    };
+    tree::put_cell(out, cell * CELL_WIDTH, made);
     count
-}
-
-// Two words from an index on.
-fn put_two(work: &mut [u32], at: usize, a: u32, b: u32)
-    requires { at + 2 ≤ length work.old }
-    ensures { work.new ≡ put work.old at (a ∷ b ∷ []) }
-{
-    work[at] = a;
-    work[at + 1] = b;
 }
 
 // Writes a list of trees out as cells and packed words. Pending lists stand from `top` on, two words each.
@@ -341,7 +293,7 @@ pub fn write_cells(
     requires { Writable work.old top root (length out.old) (length words.old) }
     ensures { Wrote work.old top root start out.old out.new words.old words.new }
 {
-    let bottom = words::index(top);
+    let bottom = top as usize;
     let mut at = root;
     let mut from = start;
     let mut sp = bottom;
@@ -357,20 +309,19 @@ pub fn write_cells(
             sp -= 2;
             continue;
         }
-        let n = words::index(at);
+        let n = at as usize;
         let next = work[n + NODE_NEXT];
         if work[n + NODE_KIND] == 2 {
-            let count = write_part(work, n, from, out, cell, words, word);
-            word += count;
+            word += write_part(work, n, from, out, cell, words, word);
             cell += 1;
             at = next;
             continue;
         }
         write_tree(work, n, from, out, cell);
         at = work[n + NODE_FIRST];
-        let q = work[n + NODE_START];
-        put_two(work, sp, next, from);
-        from = q;
+        let own = work[n + NODE_START];
+        words::put(work, sp, &[next, from]);
+        from = own;
         sp += 2;
         cell += 1;
     }
@@ -390,6 +341,7 @@ pub fn write_top(
     requires { TopReady work.old top kids (lib.ListN.length out.old) (lib.ListN.length words.old) }
     ensures { TopWrote work.old top id start length kids out.old out.new words.old words.new }
 {
-    let root = push_tree(work, top, 1, id, start, length, kids, 0);
+    let own = NodeType { kind: 1, id };
+    let root = push_tree(work, top, own, start, length, kids, 0);
     write_cells(work, top + NODE_WIDTH, root, start, out, words);
 }

@@ -2,7 +2,7 @@
 use mathlib.Core.Path.{◌≡◌, refl, sym, ap, subst, ◌∙◌}
 use mathlib.Core.Bool.{false}
 use mathlib.Core.List.{List, [], ◌∷◌}
-use mathlib.Core.Option.{Option}
+use Rattle.std.specs.Prelude.{Option}
 use Prim.Native.Nat.{ℕ, ◌+◌, ◌-◌, ◌*◌, ◌/◌, ◌≤◌, ◌<◌}
 use native.Mathlib.Omega.{arith}
 use lib.ListN.{length, get_or}
@@ -15,7 +15,6 @@ use Rattle.tree.proofs.WellBuild.{gathers_tree}
 use Rattle.store.specs.Store.{Same}
 use Rattle.store.proofs.Frame.{same_less, frame}
 use Rattle.cursor.proofs.Spelled.{spells_none}
-use Rattle.cursor.proofs.Own.{repeats_plain}
 use Rattle.gathering.specs.Gathering.{due, FinishReady, Finished}
 use Rattle.gathering.proofs.Due.{due_tree}
 use Rattle.take.specs.Going.{Outer, deep, own_under, settled, owed, memo_at, frame_at, Level, Frames, Going}
@@ -23,7 +22,7 @@ use Rattle.take.specs.Steps.{Closes, Closed}
 use Rattle.take.specs.declared.Frame.{Frame}
 use Rattle.take.specs.declared.State.{State}
 use Rattle.take.proofs.Levels.{frames_stay, counted_stays}
-use Rattle.take.proofs.Steps.{frames_below}
+use Rattle.take.proofs.Steps.{repeats_plain, frames_below}
 use Rattle.take.proofs.Opening.{deep_more, owed_more, settled_more}
 use Rattle.tree.specs.Well.{Parts}
 

@@ -2,7 +2,7 @@
 use mathlib.Core.Path.{◌≡◌, refl, sym, ap, subst, ◌∙◌}
 use mathlib.Core.Bool.{Bool, true, false, ◌&&◌, not}
 use mathlib.Core.List.{List, [], ◌∷◌}
-use mathlib.Core.Option.{Option, none}
+use Rattle.std.specs.Prelude.{Option, None}
 use Prim.Native.Nat.{ℕ, suc, ◌+◌, ◌-◌, ◌*◌, ◌≤◌, ◌<◌}
 use native.Mathlib.Omega.{arith}
 use native.Mathlib.Nat.{le_refl}
@@ -22,7 +22,6 @@ use Rattle.store.proofs.Frame.{same_less, frame, same_then}
 use Rattle.gathering.specs.Gathering.{HoldsGathered}
 use Rattle.cursor.specs.Spells.{Stands}
 use Rattle.cursor.proofs.Spelled.{stands_inside, stands_beyond}
-use Rattle.cursor.proofs.Own.{repeats_plain}
 use Rattle.gathering.specs.Gathering.{due, FinishReady, Finished}
 use Rattle.gathering.proofs.Due.{due_tree, due_fresh}
 use Rattle.flat.specs.Taking.{FlatReady, TakenFlat}
@@ -33,12 +32,12 @@ use Rattle.take.specs.Going.{deep, own_under, Level, Going}
 use Rattle.take.specs.Steps.{Deepens, Deepened}
 use Rattle.take.specs.declared.Node.{Node}
 use Rattle.take.specs.declared.State.{State}
-use Rattle.take.proofs.Steps.{going_on}
+use Rattle.take.proofs.Steps.{repeats_plain, going_on}
 use Rattle.take.proofs.Opening.{walk_deep}
 use Rattle.tree.specs.Well.{Parts}
 
 -- no group is made where there is no repeat tree
-flat_plain : (b : ℕ) (rs : List Record) (inside : Bool) (held : List Record) (stop : ℕ) (g : Gathered) → g.groups ≡ nil → (flat b none rs inside held stop g).groups ≡ nil
+flat_plain : (b : ℕ) (rs : List Record) (inside : Bool) (held : List Record) (stop : ℕ) (g : Gathered) → g.groups ≡ nil → (flat b None rs inside held stop g).groups ≡ nil
 unfolding flat gather same
 flat_plain b [] inside held stop g h = h
 flat_plain b (rec i s e n ∷ rs) inside held stop g h =
@@ -50,11 +49,11 @@ flat_plain b (rec i s e n ∷ rs) inside held stop g h =
     r = rec i s e n
 
     go : (x : Bool)
-        → (flat b none rs true (hold r held) (limit b r held stop) g).groups ≡ nil
-        → (flat b none rs true (hold r []) (limit b r [] 0) (gather (flat_part held) g)).groups ≡ nil
+        → (flat b None rs true (hold r held) (limit b r held stop) g).groups ≡ nil
+        → (flat b None rs true (hold r []) (limit b r [] 0) (gather (flat_part held) g)).groups ≡ nil
         → (elim x as (λ y. Gathered) [
-          | true ↦ flat b none rs true (hold r held) (limit b r held stop) g
-          | false ↦ flat b none rs true (hold r []) (limit b r [] 0) (gather (flat_part held) g)
+          | true ↦ flat b None rs true (hold r held) (limit b r held stop) g
+          | false ↦ flat b None rs true (hold r []) (limit b r [] 0) (gather (flat_part held) g)
         ]).groups ≡ nil
     go true a c = a
     go false a c = c
@@ -156,7 +155,7 @@ module _ (F T b : ℕ) (w l : List ℕ) (whole : Gathered) (s : State) (go : Goi
       finish_flat = closing
 
       module _ (l' : List ℕ) (high node : ℕ) (done : Finished l₁ l' rlow rtop i a e rgroups rloose redge s.children.loose high node) (m : Memo)
-          (unpacked : run_from F b own i a e kids rest ≡ none) (too : too_deep (deep go.stack) ≡ true) (memo : Remembered s.p (span i a e kids rest) (a - b) m) where
+          (unpacked : run_from F b own i a e kids rest ≡ None) (too : too_deep (deep go.stack) ≡ true) (memo : Remembered s.p (span i a e kids rest) (a - b) m) where
         same₂ : Same l l' 0 top s.low
         same₂ = same_then l l₁ l' 0 top s.low taken.kept (same_less l₁ l' 0 rtop rlow 0 top s.low (omega arith) taken.grown taken.lower done.kept)
 
@@ -203,9 +202,6 @@ module _ (F b : ℕ) (w l : List ℕ) (s : State) (node : Node) (memo : Memo) wh
       let u = q.unpacked in
       let h = subst (λ (x : Items). Stands F (own_under F go.stack s.tree.id) w s.tree.floor s.p x) u.is go.level.stands in
       omega (arith, h.spells.room)
-
-  pub deep_some : Deepens F b w l s node memo → 0 < s.p
-  deep_some q = omega (arith, spanned q)
 
   module _ (own : Option ℕ) (own_is : own ≡ repeats F node.id) (last : ℕ) (last_is : last ≡ s.p - 1) where
     pub flat_asks : Deepens F b w l s node memo → FlatReady w l last node.floor own b s.children.top s.low 0 0 node.end

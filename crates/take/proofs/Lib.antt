@@ -7,6 +7,5 @@ pub mod Closing
 pub mod Deep
 pub mod LastEnd
 pub mod Ways
-pub mod Frames
 pub mod Starting
 pub mod Loop

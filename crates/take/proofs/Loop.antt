@@ -2,68 +2,61 @@
 use mathlib.Core.Path.{◌≡◌, refl, sym, ap, subst, ◌∙◌}
 use mathlib.Core.Bool.{Bool, true, false, true≢false}
 use mathlib.Core.List.{List, [], ◌∷◌}
-use mathlib.Core.Option.{Option, none}
+use Rattle.std.specs.Prelude.{Option}
 use Prim.Native.Nat.{ℕ, zero, suc, ◌+◌, ◌-◌, ◌*◌, ◌≤◌, ◌<◌}
 use native.Mathlib.Omega.{arith}
 use borrow.Author.Tests.{leb-true, leb-false}
 use lib.Dec.{leb}
 use lib.ListN.{length}
 use Rattle.words.specs.Words.{id_of}
-use Rattle.tree.specs.Items.{same, repeats}
+use Rattle.tree.specs.Items.{same}
 use Rattle.take.specs.Going.{Outer, deep, own_under, Going}
 use Rattle.take.specs.Steps.{Passes, Passed, Closes, Closed, Opens, Opened, Deepens, Deepened}
 use Rattle.take.specs.Starting.{Starts, Started}
 use Rattle.take.specs.Loop.{own_at, WithPart, TookRecord, Unfinished, Stepped, ended, all_gathered, BeginsAt, Begins, TakenAll}
 use Rattle.take.specs.declared.BuiltNode.{BuiltNode}
 use Rattle.take.specs.declared.PendingNode.{PendingNode}
-use Rattle.take.specs.declared.StartedNode.{StartedNode}
 use Rattle.take.specs.declared.StartedNode.TheVariants.{Built, Pending}
 use Rattle.take.specs.declared.State.{State}
 use Rattle.take.proofs.Ways.{going_end}
 
-module _ (F b : ℕ) (own : Option ℕ) (w l : List ℕ) (s : State) (l₁ : List ℕ) (r : StartedNode) (started : (q : Starts F b own w l s) → Started F b own w l l₁ s q r) where
+module _ {F b : ℕ} {own : Option ℕ} {w l l₁ : List ℕ} {s : State} (q₀ : Starts F b own w l s) where
   -- a part
-  pub part_fits : Starts F b own w l s → (x : BuiltNode) → r ≡ Built x → (s.children.top + 10 < 4294967296) × (x.p < 4294967296)
-  part_fits q x h =
-      let v = subst (Started F b own w l l₁ s q) h (started q) in
-      let go = q.going in
-      (omega (arith, go.room, go.inside, go.fits, q.some_record), omega (arith, v.less, go.shallow, go.few))
+  module _ (x : BuiltNode) (started : (q : Starts F b own w l s) → Started F b own w l l₁ s q (Built x)) where
+    pub part_fits : (s.children.top + 10 < 4294967296) × (x.p < 4294967296)
+    part_fits =
+        let go = q₀.going in
+        (omega (arith, go.room, go.inside, go.fits, q₀.some_record), omega (arith, (started q₀).less, go.shallow, go.few))
 
-  pub took_part : Starts F b own w l s → (x : BuiltNode) → r ≡ Built x → (t : State) → WithPart s x t → TookRecord F b own w l l₁ s t
-  took_part q₀ x h t p = rw p.is (record {
-    going = λ q. (subst (Started F b own w l l₁ s q) h (started q)).going p.m p.fresh;
-    less = omega (arith, (subst (Started F b own w l l₁ s q₀) h (started q₀)).less);
-  })
+    pub took_part : {t : State} → WithPart s x t → TookRecord F b own w l l₁ s t
+    took_part p = rw p.is (record { going = λ q. (started q).going p.m p.fresh; less = omega (arith, (started q₀).less) })
 
-  module _ (y : PendingNode) (h : r ≡ Pending y) where
+  module _ (y : PendingNode) (started : (q : Starts F b own w l s) → Started F b own w l l₁ s q (Pending y)) where
     -- a tree deeper than 2,500
-    pub deep_asks : 2500 < s.depth → Starts F b own w l s → Deepens F b w l₁ s y.node y.memo
-    deep_asks d q =
-        let v = subst (Started F b own w l l₁ s q) h (started q) in
-        subst (λ (x : List ℕ). Deepens F b w x s y.node y.memo) (sym v.0) (record { T = q.T; whole = q.whole; going = q.going; unpacked = v.1; too_deep_is = d })
+    pub deep_asks : 2500 < s.depth → Deepens F b w l₁ s y.node y.memo
+    deep_asks d =
+        let v = started q₀ in
+        subst (λ (x : List ℕ). Deepens F b w x s y.node y.memo) (sym v.0) (record { T = q₀.T; whole = q₀.whole; going = q₀.going; unpacked = v.1; too_deep_is = d })
 
-    kept : Starts F b own w l s → l₁ ≡ l
-    kept q = (subst (Started F b own w l l₁ s q) h (started q)).0
-
-    pub took_deep : 2500 < s.depth → Starts F b own w l s → (l' : List ℕ) (t : State) → Deepened F b w l₁ l' s y.node y.memo t → TookRecord F b own w l l' s t
-    took_deep d q₀ l' t v = record {
+    pub took_deep : 2500 < s.depth → {l' : List ℕ} {t : State} → Deepened F b w l₁ l' s y.node y.memo t → TookRecord F b own w l l' s t
+    took_deep d {l'} {t} v = record {
       going = λ q.
-          let e = subst (Started F b own w l l₁ s q) h (started q) in
+          let e = started q in
           let v' = subst (λ (x : List ℕ). Deepened F b w x l' s y.node y.memo t) e.0 v in
           v'.going (record { T = q.T; whole = q.whole; going = q.going; unpacked = e.1; too_deep_is = d });
       less = omega (arith, v.less, v.depth);
     }
 
     -- a tree to be read
-    pub open_asks : s.depth ≤ 2500 → Starts F b own w l s → Opens w l₁ s y.node y.memo
-    open_asks d q =
-        let v = subst (Started F b own w l l₁ s q) h (started q) in
-        subst (λ (x : List ℕ). Opens w x s y.node y.memo) (sym v.0) (record { F = F; T = q.T; b = b; whole = q.whole; going = q.going; unpacked = v.1; shallow = d })
+    pub open_asks : s.depth ≤ 2500 → Opens w l₁ s y.node y.memo
+    open_asks d =
+        let v = started q₀ in
+        subst (λ (x : List ℕ). Opens w x s y.node y.memo) (sym v.0) (record { F = F; T = q₀.T; b = b; whole = q₀.whole; going = q₀.going; unpacked = v.1; shallow = d })
 
-    pub took_open : s.depth ≤ 2500 → Starts F b own w l s → (l' : List ℕ) (t : State) → Opened w l₁ l' s y.node y.memo t → TookRecord F b own w l l' s t
-    took_open d q₀ l' t v = record {
+    pub took_open : s.depth ≤ 2500 → {l' : List ℕ} {t : State} → Opened w l₁ l' s y.node y.memo t → TookRecord F b own w l l' s t
+    took_open d {l'} {t} v = record {
       going = λ q.
-          let e = subst (Started F b own w l l₁ s q) h (started q) in
+          let e = started q in
           let v' = subst (λ (x : List ℕ). Opened w x l' s y.node y.memo t) e.0 v in
           v'.going (record { F = F; T = q.T; b = b; whole = q.whole; going = q.going; unpacked = e.1; shallow = d });
       less = omega (arith, v.less, v.depth);
@@ -77,73 +70,47 @@ own_deep F [] (suc d) i h = absurd (omega arith)
 own_deep F (k ∷ ks) zero i h = absurd (omega arith)
 own_deep F (k ∷ ks) (suc d) i h = refl
 
-pub own_none : (F d i : ℕ) → d ≡ 0 → none ≡ own_at F d i
-own_none F d i h = rw h refl
-
-pub own_some : (F d i : ℕ) → (d ≡ 0 → ⊥) → repeats F i ≡ own_at F d i
-own_some F zero i h = absurd (h refl)
-own_some F (suc d) i h = refl
-
-module _ (F b : ℕ) (w l : List ℕ) (s : State) where
-  abbrev closing : Unfinished F b w l s → s.p ≤ s.tree.floor → Closes w l s
+module _ {F b : ℕ} {w l : List ℕ} {s : State} where
+  abbrev pub closing : Unfinished F b w l s → s.p ≤ s.tree.floor → Closes w l s
   closing q h = record { F = F; T = q.T; b = b; whole = q.whole; going = q.going; deeper = q.more h; ended = h }
 
-  pub close_asks : Unfinished F b w l s → s.p ≤ s.tree.floor → Closes w l s
-  close_asks q h = closing q h
-
-  pub closed_step : s.p ≤ s.tree.floor → (l' : List ℕ) (t : State) → Closed w l l' s t → Stepped F b w l l' s t
-  closed_step h l' t v = record { going = λ q. v.going (closing q h); less = omega (arith, v.same_place, v.depth) }
+  pub closed_step : s.p ≤ s.tree.floor → {l' : List ℕ} {t : State} → Closed w l l' s t → Stepped F b w l l' s t
+  closed_step h v = record { going = λ q. v.going (closing q h); less = omega (arith, v.same_place, v.depth) }
 
   pub read_within : Unfinished F b w l s → s.tree.floor < s.p → (0 < s.p) × ((s.p - 1) * 4 + 4 ≤ length w)
   read_within q h = (omega arith, omega (arith, q.going.shallow))
 
-  module _ (own : Option ℕ) (own_is : own ≡ own_at F s.depth s.tree.id) (id last : ℕ) (last_is : last ≡ s.p - 1) (id_is : id ≡ id_of w last) (inside : s.tree.floor < s.p) where
-    own_same : (q : Unfinished F b w l s) → own ≡ own_under F q.going.stack s.tree.id
+  module _ {own : Option ℕ} (own_is : own ≡ own_at F s.depth s.tree.id) {id : ℕ} (id_is : id ≡ id_of w (s.p - 1)) (inside : s.tree.floor < s.p) where
+    pub own_same : (q : Unfinished F b w l s) → own ≡ own_under F q.going.stack s.tree.id
     own_same q = own_is ∙ own_deep F q.going.stack s.depth s.tree.id q.going.depth_is
 
-    abbrev passing : same own id ≡ true → (q : Unfinished F b w l s) → Passes w l b s
+    abbrev pub passing : same own id ≡ true → Unfinished F b w l s → Passes w l b s
     passing h q = record {
       F = F;
       T = q.T;
       whole = q.whole;
       going = q.going;
       some_record = inside;
-      alone = ap (λ x. same (own_under F q.going.stack s.tree.id) x) (sym (rw last_is at id_is)) ∙ (ap (λ (x : Option ℕ). same x id) (sym (own_same q)) ∙ h);
+      alone = ap (λ x. same (own_under F q.going.stack s.tree.id) x) (sym id_is) ∙ (ap (λ (x : Option ℕ). same x id) (sym (own_same q)) ∙ h);
     }
 
-    pub pass_asks : same own id ≡ true → Unfinished F b w l s → Passes w l b s
-    pass_asks h q = passing h q
+    pub passed_step : same own id ≡ true → {l' : List ℕ} {t : State} → Passed w l l' b s t → Stepped F b w l l' s t
+    passed_step h v = record { going = λ q. v.going (passing h q); less = omega (arith, v.less, v.depth) }
 
-    pub passed_step : same own id ≡ true → (l' : List ℕ) (t : State) → Passed w l l' b s t → Stepped F b w l l' s t
-    passed_step h l' t v = record { going = λ q. v.going (passing h q); less = omega (arith, v.less, v.depth) }
-
-    abbrev starting : same own id ≡ false → (q : Unfinished F b w l s) → Starts F b own w l s
+    abbrev pub starting : same own id ≡ false → Unfinished F b w l s → Starts F b own w l s
     starting h q = record {
       T = q.T;
       whole = q.whole;
       going = q.going;
       some_record = inside;
       own_is = own_same q;
-      other = ap (λ x. same own x) (sym (rw last_is at id_is)) ∙ h;
+      other = ap (λ x. same own x) (sym id_is) ∙ h;
     }
 
-    pub take_asks : same own id ≡ false → Unfinished F b w l s → Starts F b own w l s
-    take_asks h q = starting h q
-
-    pub took_step : same own id ≡ false → (l' : List ℕ) (t : State) → TookRecord F b own w l l' s t → Stepped F b w l l' s t
-    took_step h l' t v = record { going = λ q. v.going (starting h q); less = v.less }
+    pub took_step : same own id ≡ false → {l' : List ℕ} {t : State} → TookRecord F b own w l l' s t → Stepped F b w l l' s t
+    took_step h v = record { going = λ q. v.going (starting h q); less = v.less }
 
 -- the end
-pub ended_top : (s : State) → s.depth ≡ 0 → leb s.p s.tree.floor ≡ ended s
-ended_top s h = rw h refl
-
-pub ended_inside : (s : State) → (s.depth ≡ 0 → ⊥) → false ≡ ended s
-ended_inside s h = go s.depth h
-  where
-    go : (d : ℕ) → (d ≡ 0 → ⊥) → false ≡ elim d as (λ x. Bool) [ zero ↦ leb s.p s.tree.floor | suc k ↦ false ]
-    go zero h = absurd (h refl)
-    go (suc k) h = refl
-
 ended_is : (s : State) → ended s ≡ true → (s.depth ≡ 0) × (s.p ≤ s.tree.floor)
 ended_is s h = go s.depth refl h
   where

@@ -2,13 +2,13 @@
 use mathlib.Core.Path.{◌≡◌, refl, sym, ap, subst, ◌∙◌}
 use mathlib.Core.Bool.{true, false}
 use mathlib.Core.List.{List, [], ◌∷◌}
-use mathlib.Core.Option.{Option, none}
+use Rattle.std.specs.Prelude.{Option, None}
 use Prim.Native.Nat.{ℕ, suc, ◌+◌, ◌-◌, ◌*◌, ◌/◌, ◌≤◌, ◌<◌}
 use native.Mathlib.Omega.{arith}
 use borrow.Author.Tests.{le-ltb}
 use lib.ListN.{length, get_or}
 use Rattle.words.specs.Words.{put}
-use Rattle.tree.specs.Trees.{nil, ◌⊕◌}
+use Rattle.tree.specs.Trees.{◌⊕◌}
 use Rattle.tree.specs.Items.{Items, span, records, repeats}
 use Rattle.tree.specs.Pack.{run_from}
 use Rattle.tree.specs.Groups.{Gathered, fresh, gather, finish}
@@ -32,7 +32,7 @@ use Rattle.take.specs.declared.State.{State}
 use Rattle.take.proofs.Levels.{level_stays, frames_stay, counted_stays}
 use Rattle.tree.specs.Well.{Parts}
 
-module _ (F b i s e : ℕ) (kids rest : Items) (d : ℕ) (own : Option ℕ) (g : Gathered) (unpacked : run_from F b own i s e kids rest ≡ none) where
+module _ (F b i s e : ℕ) (kids rest : Items) (d : ℕ) (own : Option ℕ) (g : Gathered) (unpacked : run_from F b own i s e kids rest ≡ None) where
   -- what the walk gives behind a record that becomes a tree
   pub walk_open : too_deep d ≡ false
       → walk F b rest d 0 own (gather (λ ts. finish F i s e (walk F b kids (suc d) 0 (repeats F i) (fresh e)) ⊕ ts) g) ≡ walk F b (span i s e kids rest) d 0 own g
@@ -43,11 +43,6 @@ module _ (F b i s e : ℕ) (kids rest : Items) (d : ℕ) (own : Option ℕ) (g :
       → walk F b rest d 0 own (gather (λ ts. finish F i s e (flat b (repeats F i) (flattened kids []) false [] 0 (fresh e)) ⊕ ts) g) ≡ walk F b (span i s e kids rest) d 0 own g
   unfolding walk
   walk_deep h = rw (unpacked, h, walk) refl
-
--- the fresh tree
-fresh_parts : (e : ℕ) → ((fresh e).groups ≡ nil) × ((fresh e).loose ≡ nil) × ((fresh e).edge ≡ e)
-unfolding fresh
-fresh_parts e = (refl, refl, refl)
 
 pub deep_more : (k : Outer) (ks : List Outer) → deep (k ∷ ks) ≡ suc (deep ks)
 unfolding deep
@@ -76,7 +71,7 @@ module _ (F T b : ℕ) (w l : List ℕ) (whole : Gathered) (s : State) (go : Goi
   abbrev pub at : ℕ
   at = n + 1 + 11 * s.depth
 
-  module _ (i a e : ℕ) (kids rest : Items) (is : go.its ≡ span i a e kids rest) (unpacked : run_from F b own i a e kids rest ≡ none) (shallow : too_deep (deep go.stack) ≡ false)
+  module _ (i a e : ℕ) (kids rest : Items) (is : go.its ≡ span i a e kids rest) (unpacked : run_from F b own i a e kids rest ≡ None) (shallow : too_deep (deep go.stack) ≡ false)
       (m m₀ : Memo) (memo : Remembered s.p (span i a e kids rest) (a - b) m) (none_yet : s.p - 1 ≤ m₀.place) where
     -- the words of the frame
     abbrev pub frame_words : List ℕ

@@ -2,7 +2,7 @@
 use mathlib.Core.Path.{◌≡◌, refl, sym, ap, subst, ◌∙◌}
 use mathlib.Core.Bool.{false}
 use mathlib.Core.List.{List}
-use mathlib.Core.Option.{Option, some}
+use Rattle.std.specs.Prelude.{Option, Some}
 use Prim.Native.Nat.{ℕ, suc, ◌+◌, ◌-◌, ◌*◌, ◌≤◌}
 use native.Mathlib.Omega.{arith}
 use native.Mathlib.Nat.{le_refl}
@@ -43,7 +43,7 @@ unfolding after
 after_run k i s e kids rest = refl
 
 -- what the walk gives behind a run that packs
-walk_run : (F b i s e : ℕ) (kids rest : Items) (d k : ℕ) (own : Option ℕ) (g : Gathered) → run_from F b own i s e kids rest ≡ some k
+walk_run : (F b i s e : ℕ) (kids rest : Items) (d k : ℕ) (own : Option ℕ) (g : Gathered) → run_from F b own i s e kids rest ≡ Some k
     → walk F b (after k rest) d 0 own (gather (run_part F i s e kids (first k rest)) g) ≡ walk F b (span i s e kids rest) d 0 own g
 unfolding walk
 walk_run F b i s e kids rest d k own g h = sym (walk_after F b rest d k own (gather (run_part F i s e kids (first k rest)) g)) ∙ rw (h, walk) refl
@@ -64,7 +64,7 @@ module _ (F T b : ℕ) (w l : List ℕ) (whole : Gathered) (s : State) (go : Goi
   abbrev top : ℕ
   top = s.children.top
 
-  module _ (i a e k : ℕ) (kids rest : Items) (is : go.its ≡ span i a e kids rest) (packs : run_from F b own i a e kids rest ≡ some k) where
+  module _ (i a e k : ℕ) (kids rest : Items) (is : go.its ≡ span i a e kids rest) (packs : run_from F b own i a e kids rest ≡ Some k) where
     -- the run, where it starts, its words
     abbrev pub run : Items
     run = span i a e kids (first k rest)

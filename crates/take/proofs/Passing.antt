@@ -2,7 +2,7 @@
 use mathlib.Core.Path.{◌≡◌, refl, sym, ap, subst, ◌∙◌}
 use mathlib.Core.Bool.{true, false, true≢false}
 use mathlib.Core.List.{List}
-use mathlib.Core.Option.{Option, none}
+use Rattle.std.specs.Prelude.{Option, None}
 use Prim.Native.Nat.{ℕ, ◌+◌, ◌-◌, ◌*◌, ◌≤◌, ◌<◌}
 use native.Mathlib.Omega.{arith}
 use lib.ListN.{length, get_or}
@@ -31,7 +31,7 @@ unfolding walk
 walk_mark F b i s e n rest d own g = refl
 
 -- nothing stands alone where there is no repeat tree
-not_alone : (own : Option ℕ) (i : ℕ) → same own i ≡ true → own ≡ none → ⊥
+not_alone : (own : Option ℕ) (i : ℕ) → same own i ≡ true → own ≡ None → ⊥
 unfolding same
 not_alone own i h n = true≢false (sym h ∙ ap (λ (o : Option ℕ). same o i) n)
 

@@ -2,7 +2,7 @@
 use mathlib.Core.Path.{◌≡◌, refl, sym, ap, subst, ◌∙◌}
 use mathlib.Core.Bool.{false}
 use mathlib.Core.List.{List}
-use mathlib.Core.Option.{Option, none, some}
+use Rattle.std.specs.Prelude.{Option, None, Some, Result, Ok, Err}
 use Prim.Native.Nat.{ℕ, suc, ◌+◌, ◌-◌, ◌*◌, ◌/◌, ◌≤◌, ◌<◌}
 use native.Mathlib.Omega.{arith}
 use lib.ListN.{length}
@@ -19,9 +19,6 @@ use Rattle.reader.specs.Before.{record_before}
 use Rattle.reader.specs.declared.Record.{Record}
 use Rattle.pack.specs.Taking.{Filled, Takable, Takes}
 use Rattle.pack.specs.declared.Part.{Part}
-use Rattle.pack.specs.declared.Taken.{Taken}
-use Rattle.pack.specs.declared.Taken.TheVariants.{Packed}
-use Rattle.pack.specs.declared.Taken.TheVariants as variants
 use Rattle.pack.proofs.Held.{takable, filled_same, filled_staged, run_short}
 use Rattle.take.specs.Going.{own_under, Level, Going}
 use Rattle.take.specs.Starting.{PartReady, PartBuilt, pending, Starts, Started}
@@ -32,20 +29,7 @@ use Rattle.take.proofs.Steps.{OtherItem, other_item}
 use Rattle.take.proofs.Packing.{going_packed, records_run}
 use Rattle.tree.specs.Ordered.{Fits}
 
--- what an answer holds
-part_of : Part → Taken → Part
-part_of d (Packed x) = x
-part_of d (variants.Unpacked m) = d
-
-memo_of : Memo → Taken → Memo
-memo_of d (Packed x) = d
-memo_of d (variants.Unpacked m) = m
-
-which : Taken → ℕ
-which (Packed x) = 0
-which (variants.Unpacked m) = 1
-
-module _ (F b : ℕ) (own : Option ℕ) (w l : List ℕ) (s : State) (q : Starts F b own w l s) where
+module _ {F b : ℕ} {own : Option ℕ} {w l : List ℕ} {s : State} (q : Starts F b own w l s) where
   abbrev go : Going F q.T b w l q.whole s
   go = q.going
 
@@ -94,43 +78,38 @@ module _ (F b : ℕ) (own : Option ℕ) (w l : List ℕ) (s : State) (q : Starts
   last_words : (id_of w (s.p - 1) ≡ i) × (start_of w (s.p - 1) ≡ a) × (end_of w (s.p - 1) ≡ e) × (last_of w (s.p - 1) ≡ 4 * suc (records kids)) × (suc (records kids) ≤ s.p)
   last_words = let h = standing.stands.spells in (h.id, h.start, h.end, h.size, omega (arith, h.room))
 
-  module _ (l₁ : List ℕ) (r : Taken) (took : (T from to i s' e : ℕ) (kids rest : Items) → Scans F own w l s.tree.floor s.p b s.memo i s' e kids rest → Fits F T from to (span i s' e kids rest)
-      → Takes F b i s' e kids rest s.p l s.low (run_from F b own i s' e kids rest) r l₁) where
-    answer : Takes F b i a e kids rest s.p l s.low (run_from F b own i a e kids rest) r l₁
-    answer = took q.T s.tree.start go.hi i a e kids rest scans standing.fits
+  -- what taking the span answers
+  abbrev Took : List ℕ → Result Part Memo → Type 0
+  Took l₁ r = (T from to i s' e : ℕ) (kids rest : Items) → Scans F own w l s.tree.floor s.p b s.memo i s' e kids rest → Fits F T from to (span i s' e kids rest)
+      → Takes F b i s' e kids rest s.p l s.low (run_from F b own i s' e kids rest) r l₁
 
-    -- a run
-    record Ran (x : Part) : Type 0 where
-      k : ℕ
-      packs : run_from F b own i a e kids rest ≡ some k
-      is : x ≡ record { p = s.p - records (span i a e kids (first k rest)); low = s.low - words F (span i a e kids (first k rest)); start = leftmost a (first k rest); length = e - leftmost a (first k rest) }
-      filled : Filled l l₁ (s.low - words F (span i a e kids (first k rest))) s.low (pack F (leftmost a (first k rest)) 0 (span i a e kids (first k rest)))
+  answer : (l₁ : List ℕ) (r : Result Part Memo) → Took l₁ r → Takes F b i a e kids rest s.p l s.low (run_from F b own i a e kids rest) r l₁
+  answer l₁ r took = took q.T s.tree.start go.hi i a e kids rest scans standing.fits
 
-    ran : (x : Part) → r ≡ Packed x → Ran x
-    unfolding which part_of
-    ran x h = go (run_from F b own i a e kids rest) refl answer
+  -- a run
+  record Ran (l₁ : List ℕ) (x : Part) : Type 0 where
+    k : ℕ
+    packs : run_from F b own i a e kids rest ≡ Some k
+    is : x ≡ record { p = s.p - records (span i a e kids (first k rest)); low = s.low - words F (span i a e kids (first k rest)); start = leftmost a (first k rest); length = e - leftmost a (first k rest) }
+    filled : Filled l l₁ (s.low - words F (span i a e kids (first k rest))) s.low (pack F (leftmost a (first k rest)) 0 (span i a e kids (first k rest)))
+
+  -- or none
+  record Stopped (l₁ : List ℕ) (m : Memo) : Type 0 where
+    unpacked : run_from F b own i a e kids rest ≡ None
+    remembered : Remembered s.p (span i a e kids rest) (e - b) m
+    kept : l₁ ≡ l
+
+  module _ {l₁ : List ℕ} (x : Part) (took : Took l₁ (Ok x)) where
+    ran : Ran l₁ x
+    ran = go (run_from F b own i a e kids rest) refl (answer l₁ (Ok x) took)
       where
-        go : (o : Option ℕ) → run_from F b own i a e kids rest ≡ o → Takes F b i a e kids rest s.p l s.low o r l₁ → Ran x
-        go none eq t = let z : ◌≡◌ {A = ℕ} 0 1 = ap which (sym h ∙ t.1) in absurd (omega arith)
-        go (some k) eq t = record { k = k; packs = eq; is = ap (part_of x) (sym h ∙ t.0); filled = t.1 }
+        go : (o : Option ℕ) → run_from F b own i a e kids rest ≡ o → Takes F b i a e kids rest s.p l s.low o (Ok x) l₁ → Ran l₁ x
+        go None eq t = let z = t.1 in absurd cc
+        go (Some k) eq t = let z = t.0 in record { k = k; packs = eq; is = cc; filled = t.1 }
 
-    -- or none
-    record Stopped (m : Memo) : Type 0 where
-      unpacked : run_from F b own i a e kids rest ≡ none
-      remembered : Remembered s.p (span i a e kids rest) (e - b) m
-      kept : l₁ ≡ l
-
-    stopped : (m : Memo) → r ≡ variants.Unpacked m → Stopped m
-    unfolding which memo_of
-    stopped m h = go (run_from F b own i a e kids rest) refl answer
-      where
-        go : (o : Option ℕ) → run_from F b own i a e kids rest ≡ o → Takes F b i a e kids rest s.p l s.low o r l₁ → Stopped m
-        go none eq t = record { unpacked = eq; remembered = rw (ap (memo_of m) (sym h ∙ t.1)) t.2; kept = t.3 }
-        go (some k) eq t = let z : ◌≡◌ {A = ℕ} 1 0 = ap which (sym h ∙ t.0) in absurd (omega arith)
-
-    pub part_asks : (x : Part) → r ≡ Packed x → PartReady l₁ s.children.top s.low s.children.loose x.low
-    part_asks x h =
-        let v = ran x h in
+    pub part_asks : PartReady l₁ s.children.top s.low s.children.loose x.low
+    part_asks =
+        let v = ran in
         let run = span i a e kids (first v.k rest) in
         let low_is : x.low ≡ s.low - words F run = ap (λ (y : Part). y.low) v.is in
         let kept = filled_same l l₁ (s.low - words F run) s.low (pack F (leftmost a (first v.k rest)) 0 run) v.filled go.inside in
@@ -150,10 +129,10 @@ module _ (F b : ℕ) (own : Option ℕ) (w l : List ℕ) (s : State) (q : Starts
             let all = spells_count w s.tree.floor s.p (span i a e kids rest) standing.stands.spells in
             omega (arith, words_records F (span i a e kids (first k rest)), records_run i a e kids (first k rest), records_run i a e kids rest, Rattle.tree.proofs.RecordCounts.records_split k rest, all)
 
-    pub started_part : (x : Part) → r ≡ Packed x → (l' : List ℕ) (y : BuiltNode) → PartBuilt l₁ l' s x y
+    pub started_part : (l' : List ℕ) (y : BuiltNode) → PartBuilt l₁ l' s x y
         → Started F b own w l l' s q (Rattle.take.specs.declared.StartedNode.TheVariants.Built y)
-    started_part x h l' y built =
-        let v = ran x h in
+    started_part l' y built =
+        let v = ran in
         let run = span i a e kids (first v.k rest) in
         let from = leftmost a (first v.k rest) in
         let ws = pack F from 0 run in
@@ -161,7 +140,7 @@ module _ (F b : ℕ) (own : Option ℕ) (w l : List ℕ) (s : State) (q : Starts
         let p_is : y.p ≡ s.p - records run = built.p_is ∙ ap (λ (z : Part). z.p) v.is in
         let low_is : y.low ≡ low' = built.low_is ∙ ap (λ (z : Part). z.low) v.is in
         let pushed = rw v.is at built.pushed in
-        let packs : run_from F b under i a e kids rest ≡ some v.k = subst (λ (x : Option ℕ). run_from F b x i a e kids rest ≡ some v.k) q.own_is v.packs in
+        let packs : run_from F b under i a e kids rest ≡ Some v.k = subst (λ (x : Option ℕ). run_from F b x i a e kids rest ≡ Some v.k) q.own_is v.packs in
         let short = run_short F b under q.T s.tree.start go.hi i a e kids rest v.k go.types go.bound standing.fits packs in
         record {
           less = omega (arith, p_is, records_run i a e kids (first v.k rest), last_words.4);
@@ -171,13 +150,24 @@ module _ (F b : ℕ) (own : Option ℕ) (w l : List ℕ) (s : State) (q : Starts
               (omega (arith, v.filled.room)) pushed (rw p_is at place));
         }
 
-    pub pending_asks : (0 < s.p) × (s.p * 4 ≤ length w) × (s.p < 4294967296) × (last_of w (s.p - 1) / 4 ≤ s.p)
-    pending_asks = (omega (arith, q.some_record), omega (arith, within.0), omega (arith, within.0, within.1), omega (arith, last_words.3, last_words.4))
+  pub pending_asks : (0 < s.p) × (s.p * 4 ≤ length w) × (s.p < 4294967296) × (last_of w (s.p - 1) / 4 ≤ s.p)
+  pending_asks = (omega (arith, q.some_record), omega (arith, within.0), omega (arith, within.0, within.1), omega (arith, last_words.3, last_words.4))
 
-    pub started_tree : (m : Memo) → r ≡ variants.Unpacked m → Started F b own w l l₁ s q (Rattle.take.specs.declared.StartedNode.TheVariants.Pending (pending w s.p m))
-    started_tree m h =
-        let v = stopped m h in
-        let unpacked : run_from F b under i a e kids rest ≡ none = subst (λ (x : Option ℕ). run_from F b x i a e kids rest ≡ none) q.own_is v.unpacked in (
+  module _ {l₁ : List ℕ} (m : Memo) (took : Took l₁ (Err m)) where
+    stopped : Stopped l₁ m
+    stopped = go (run_from F b own i a e kids rest) refl (answer l₁ (Err m) took)
+      where
+        go : (o : Option ℕ) → run_from F b own i a e kids rest ≡ o → Takes F b i a e kids rest s.p l s.low o (Err m) l₁ → Stopped l₁ m
+        go None eq t =
+            let z = t.1 in
+            let y : t.0 ≡ m = cc in
+            record { unpacked = eq; remembered = rw y at t.2; kept = t.3 }
+        go (Some k) eq t = let z = t.0 in absurd cc
+
+    pub started_tree : Started F b own w l l₁ s q (Rattle.take.specs.declared.StartedNode.TheVariants.Pending (pending w s.p m))
+    started_tree =
+        let v = stopped in
+        let unpacked : run_from F b under i a e kids rest ≡ None = subst (λ (x : Option ℕ). run_from F b x i a e kids rest ≡ None) q.own_is v.unpacked in (
           v.kept,
           rw (last_words.0, last_words.1, last_words.2) (record {
             kids = kids;

@@ -2,11 +2,12 @@
 use mathlib.Core.Path.{◌≡◌, refl, sym, ap, ◌∙◌}
 use mathlib.Core.Bool.{true, false, true≢false}
 use mathlib.Core.List.{List}
-use mathlib.Core.Option.{Option}
+use Rattle.std.specs.Prelude.{Option, None}
 use Prim.Native.Nat.{ℕ, ◌+◌, ◌-◌, ◌*◌, ◌/◌, ◌≤◌, ◌<◌}
 use native.Mathlib.Omega.{arith}
+use borrow.Author.Tests.{lt-ltb}
 use lib.ListN.{length, get_or}
-use Rattle.tree.specs.Items.{Items, mark, span, same}
+use Rattle.tree.specs.Items.{Items, mark, span, same, repeats}
 use Rattle.tree.specs.Groups.{Gathered}
 use Rattle.tree.specs.Build.{walk}
 use Rattle.store.specs.Store.{Same}
@@ -18,6 +19,11 @@ use Rattle.scan.specs.declared.Memo.{Memo}
 use Rattle.take.specs.Going.{deep, own_under, settled, Level, Going}
 use Rattle.take.specs.declared.State.{State}
 use Rattle.take.proofs.Levels.{frames_stay, counted_stays}
+
+-- a tree whose id is below the first repeat id is no repeat tree
+pub repeats_plain : (F i : ℕ) → i < F → None ≡ repeats F i
+unfolding repeats
+repeats_plain F i h = rw (lt-ltb i F h, repeats)
 
 module _ (F T b : ℕ) (w l : List ℕ) (whole : Gathered) (s : State) (go : Going F T b w l whole s) where
   -- what the present tree's children stand under

@@ -1,7 +1,7 @@
 -- Where the take loop begins, and what it has made when it ends. Assumes nothing.
 use mathlib.Core.Path.{◌≡◌, refl, sym, ap, ◌∙◌}
 use mathlib.Core.List.{List, [], ◌∷◌}
-use mathlib.Core.Option.{Option, none}
+use Rattle.std.specs.Prelude.{Option, None}
 use Prim.Native.Nat.{ℕ, ◌+◌, ◌-◌, ◌*◌, ◌/◌, ◌≤◌, ◌<◌}
 use native.Mathlib.Omega.{arith}
 use native.Mathlib.Nat.{le_refl}
@@ -51,7 +51,7 @@ module _ (T F b top S : ℕ) (w : List ℕ) (fits : S ≤ 4294967295) (a : Accep
   n = length w / 4
 
   -- where the last first-level record ends
-  last_record : (f : Forest) → Stands F none w 0 n (items F none f Items.nil) → 0 < n → behind S f ≡ get_or w ((n - 1) * 4 + 2) 0
+  last_record : (f : Forest) → Stands F None w 0 n (items F None f Items.nil) → 0 < n → behind S f ≡ get_or w ((n - 1) * 4 + 2) 0
   unfolding items behind same
   last_record empty h m = absurd (omega (arith, h.spells))
   last_record (add before i s e kids) h m = sym h.spells.end
@@ -59,7 +59,7 @@ module _ (T F b top S : ℕ) (w : List ℕ) (fits : S ≤ 4294967295) (a : Accep
   pub behind_last : 0 < n → behind S (parse w) ≡ get_or w ((n - 1) * 4 + 2) 0
   behind_last m = last_record (parse w) (stands_accepted T F b top S w a) m
 
-  no_record : (f : Forest) → Stands F none w 0 n (items F none f Items.nil) → n ≡ 0 → behind S f ≡ S
+  no_record : (f : Forest) → Stands F None w 0 n (items F None f Items.nil) → n ≡ 0 → behind S f ≡ S
   unfolding items behind same
   no_record empty h m = refl
   no_record (add before i s e kids) h m = absurd (omega (arith, h.spells.room))
@@ -79,11 +79,11 @@ module _ (T F b top S : ℕ) (w : List ℕ) (fits : S ≤ 4294967295) (a : Accep
   unfolding all_gathered
   going_start l x m size counted x-is none_yet = rw x-is (record {
     stack = [];
-    its = items F none (parse w) Items.nil;
+    its = items F None (parse w) Items.nil;
     g = fresh (behind S (parse w));
     hi = behind S (parse w);
     base = 12 * n + 1;
-    small = (ends_fit T F b S top none w fits a).1;
+    small = (ends_fit T F b S top None w fits a).1;
     types = a.types;
     bound = a.bound;
     few = a.few;
@@ -91,15 +91,15 @@ module _ (T F b top S : ℕ) (w : List ℕ) (fits : S ≤ 4294967295) (a : Accep
     shallow = omega arith;
     level = record {
       stands = stands_accepted T F b top S w a;
-      fits = fits_items F T none (own_none F) (parse w) S (behind S (parse w)) S Items.nil (ends_fit T F b S top none w fits a).0 (le_refl S);
+      fits = fits_items F T None (own_none F) (parse w) S (behind S (parse w)) S Items.nil (ends_fit T F b S top None w fits a).0 (le_refl S);
       gathers = gathers_fresh T (Parts T) (behind S (parse w));
       holds = fresh_holds l (12 * n + 1) (12 * n + 1) (96 * n + 96) (behind S (parse w));
       plain = λ q. fresh_none (behind S (parse w));
-      remembered = remembered_fresh n (items F none (parse w) Items.nil) (behind S (parse w) - b) m none_yet;
+      remembered = remembered_fresh n (items F None (parse w) Items.nil) (behind S (parse w) - b) m none_yet;
     };
     frames = omega arith;
-    value = rw none_deep (settled_none F b 0 S (behind S (parse w)) (walk F b (items F none (parse w) Items.nil) 0 0 none (fresh (behind S (parse w)))));
-    room = omega (arith, none_owed, due_fresh none (behind S (parse w)));
+    value = rw none_deep (settled_none F b 0 S (behind S (parse w)) (walk F b (items F None (parse w) Items.nil) 0 0 None (fresh (behind S (parse w)))));
+    room = omega (arith, none_owed, due_fresh None (behind S (parse w)));
     base_is = refl;
     above = omega arith;
     inside = omega (arith, size);
@@ -125,7 +125,7 @@ pub going_end : (F T b S : ℕ) (w l : List ℕ) (s : State) → Going F T b w l
 going_end F T b S w l s go shallow ended =
     let k : go.stack ≡ [] = no_deep go.stack (omega (arith, go.depth_is)) in
     let i : go.its ≡ Items.nil = spells_none w s.tree.floor s.p go.its go.level.stands.spells ended in
-    let own : own_under F go.stack s.tree.id ≡ none = ap (λ (x : List Outer). own_under F x s.tree.id) k in
+    let own : own_under F go.stack s.tree.id ≡ None = ap (λ (x : List Outer). own_under F x s.tree.id) k in
     let groups : go.g.groups ≡ nil = go.level.plain own in
     let inner : walk F b go.its (deep go.stack) 0 (own_under F go.stack s.tree.id) go.g ≡ go.g
     = ap (λ (x : Items). walk F b x (deep go.stack) 0 (own_under F go.stack s.tree.id) go.g) i ∙ walk_none F b (deep go.stack) (own_under F go.stack s.tree.id) go.g in

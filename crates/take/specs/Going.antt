@@ -1,7 +1,6 @@
 -- What the take loop keeps: the trees that are open, what each has gathered, and the words that hold them. Nothing here is needed
 -- to read what a call promises.
-use Rattle.std.specs.Prelude.{◌≡◌, false, List, [], ◌∷◌, ℕ, suc, ◌+◌, ◌-◌, ◌*◌, ◌/◌, ◌≤◌, ◌<◌, length, get_or}
-use Rattle.std.proofs.Math.Option.{Option, none}
+use Rattle.std.specs.Prelude.{◌≡◌, false, List, [], ◌∷◌, ℕ, suc, ◌+◌, ◌-◌, ◌*◌, ◌/◌, ◌≤◌, ◌<◌, length, get_or, Option, None}
 use Rattle.words.specs.Words.{record_width}
 use Rattle.tree.specs.Trees.{nil, ◌⊕◌}
 use Rattle.tree.specs.Items.{Items, same, repeats}
@@ -35,7 +34,7 @@ deep (k ∷ ks) = suc (deep ks)
 
 -- what the children of a tree of id i inside these stand under; the outermost is the top, which is no repeat tree
 abbrev pub own_under : (F : ℕ) → List Outer → (i : ℕ) → Option ℕ
-own_under F [] i = none
+own_under F [] i = None
 own_under F (k ∷ ks) i = repeats F i
 
 -- What the top gathers in the end, if the present tree, of id i from s to e, gathers g: it is finished, and each tree around it is
@@ -76,7 +75,7 @@ module _ (F T b : ℕ) (w l : List ℕ) where
     pub fits : Fits F T from reach its
     pub gathers : Gathers T (Parts T) hi end g
     pub holds : HoldsGathered l base top low groups loose edge g
-    pub plain : own ≡ none → g.groups ≡ nil
+    pub plain : own ≡ None → g.groups ≡ nil
     pub remembered : Remembered p its (reach - b) memo
 
   -- The trees around the present one, which has the id i, runs from s to e and whose records begin at `floor`: eleven words each,

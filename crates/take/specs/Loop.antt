@@ -1,6 +1,5 @@
 -- What the take loop asks, keeps and leaves. Nothing here is needed to read what a call promises.
-use Rattle.std.specs.Prelude.{◌≡◌, Bool, false, List, ℕ, zero, suc, ◌+◌, ◌*◌, ◌/◌, ◌≤◌, ◌<◌, leb, length}
-use Rattle.std.proofs.Math.Option.{Option, none}
+use Rattle.std.specs.Prelude.{◌≡◌, Bool, false, List, ℕ, zero, suc, ◌+◌, ◌*◌, ◌/◌, ◌≤◌, ◌<◌, leb, length, Option, None}
 use Rattle.words.specs.Words.{record_width}
 use Rattle.records.specs.Forest.{behind}
 use Rattle.records.specs.Parse.{parse}
@@ -16,7 +15,7 @@ use Rattle.take.specs.declared.State.{State}
 
 -- what the children of a tree of id i at this depth stand under
 abbrev pub own_at : (F depth i : ℕ) → Option ℕ
-own_at F zero i = none
+own_at F zero i = None
 own_at F (suc d) i = repeats F i
 
 -- the state with a part in front of the children, and no memo
@@ -54,7 +53,7 @@ ended s = elim s.depth [ zero ↦ leb s.p s.tree.floor | suc d ↦ false ]
 
 -- what the walk of a whole list gathers
 unfoldable pub all_gathered : (F b S : ℕ) (w : List ℕ) → Gathered
-all_gathered F b S w = walk F b (items F none (parse w) Items.nil) 0 0 none (fresh (behind S (parse w)))
+all_gathered F b S w = walk F b (items F None (parse w) Items.nil) 0 0 None (fresh (behind S (parse w)))
 
 -- the state before any record is read, for the build start S
 pub record BeginsAt (F b S : ℕ) (w l : List ℕ) (s : State) : Type 0 where

@@ -1,6 +1,5 @@
 -- What taking a record asks and leaves. Nothing here is needed to read what a call promises.
-use Rattle.std.specs.Prelude.{◌≡◌, false, List, ℕ, ◌+◌, ◌-◌, ◌/◌, ◌≤◌, ◌<◌, length}
-use Rattle.std.proofs.Math.Option.{Option}
+use Rattle.std.specs.Prelude.{◌≡◌, false, List, ℕ, ◌+◌, ◌-◌, ◌/◌, ◌≤◌, ◌<◌, length, Option}
 use Rattle.words.specs.Words.{id_of, start_of, end_of, last_of, record_width}
 use Rattle.tree.specs.Items.{same}
 use Rattle.tree.specs.Groups.{Gathered}

@@ -1,6 +1,5 @@
 -- What each step of the take loop asks and leaves. Nothing here is needed to read what a call promises.
-use Rattle.std.specs.Prelude.{◌≡◌, true, List, ℕ, suc, ◌+◌, ◌-◌, ◌≤◌, ◌<◌}
-use Rattle.std.proofs.Math.Option.{Option, none}
+use Rattle.std.specs.Prelude.{◌≡◌, true, List, ℕ, suc, ◌+◌, ◌-◌, ◌≤◌, ◌<◌, Option, None}
 use Rattle.words.specs.Words.{id_of}
 use Rattle.tree.specs.Items.{Items, span, same, records}
 use Rattle.tree.specs.Pack.{run_from}
@@ -45,7 +44,7 @@ pub record Unpacked (F b : ℕ) (own : Option ℕ) (p : ℕ) (its : Items) (node
   pub kids : Items
   pub rest : Items
   pub is : its ≡ span node.id node.start node.end kids rest
-  pub unpacked : run_from F b own node.id node.start node.end kids rest ≡ none
+  pub unpacked : run_from F b own node.id node.start node.end kids rest ≡ None
   pub floor_is : node.floor ≡ p - suc (records kids)
   pub remembered : Remembered p (span node.id node.start node.end kids rest) (node.start - b) memo
 

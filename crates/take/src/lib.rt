@@ -69,11 +69,7 @@ pub enum StartedNode {
 fn finished(s: State) -> bool
     ensures { result ≡ ended s }
 {
-    if s.depth == 0 {
-        let tree = s.tree;
-        return s.p <= tree.floor as usize;
-    }
-    false
+    s.depth == 0 && s.p <= s.tree.floor as usize
 }
 
 // The first-level trees of a list: their first node, the store's top and the lowest packed word.
@@ -99,10 +95,9 @@ pub fn take_nodes(
     while !finished(s) {
         s = step(records, first_repeat, bound, work, s);
     }
-    let children = s.children;
     FirstLevel {
-        top: children.top,
+        top: s.children.top,
         low: s.low,
-        kids: children.loose,
+        kids: s.children.loose,
     }
 }

@@ -1,7 +1,6 @@
 // What the last record becomes: a part that is built, or a tree whose children are to be read.
 ghost use Rattle.std.specs.Prelude.{◌≡◌, ◌-◌, ◌*◌, ◌/◌, ◌≤◌, ◌<◌, length};
 ghost use Rattle.words.specs.Words.{last_of, record_width};
-ghost use Rattle.cursor.specs.Own.{own_of};
 ghost use Rattle.take.specs.Starting.{PartReady, PartBuilt, pending, Starts, Started};
 
 use crate::{BuiltNode, Node, PendingNode, StartedNode, State};
@@ -12,21 +11,20 @@ fn built_part(work: &mut [u32], s: State, part: pack::Part) -> BuiltNode
     requires { PartReady work.old s.children.top s.low s.children.loose part.low }
     ensures { PartBuilt work.old work.new s part result }
 {
-    let g = s.children;
-    let from = part.low as u32;
+    let low = part.low as u32;
     let node = store::push_part(
         work,
-        g.top,
+        s.children.top,
         part.start,
         part.length,
-        from,
-        s.low - from,
-        g.loose,
+        low,
+        s.low - low,
+        s.children.loose,
     );
     BuiltNode {
         p: part.p,
-        low: from,
-        node: node,
+        low,
+        node,
     }
 }
 
@@ -45,10 +43,7 @@ fn pending_node(records: &[u32], p: usize, memo: scan::Memo) -> PendingNode
         end: last.end,
         floor: (p - (last.size / RECORD_SIZE) as usize) as u32,
     };
-    PendingNode {
-        node: node,
-        memo: memo,
-    }
+    PendingNode { node, memo }
 }
 
 // Takes the last record, which has not the tree's own id: a run that packs becomes a part, otherwise the record becomes a tree.
@@ -56,25 +51,27 @@ pub fn start_node(
     records: &[u32],
     first_repeat: u32,
     bound: u32,
-    own: cursor::InRepeat,
+    own: Option<u32>,
     work: &mut [u32],
     s: State,
 ) -> StartedNode
-    requires { Starts first_repeat bound (own_of own) records.now work.old s }
-    ensures { (q : Starts first_repeat bound (own_of own) records.now work.old s) → Started first_repeat bound (own_of own) records.now work.old work.new s q result }
+    requires { Starts first_repeat bound own records.now work.old s }
+    ensures { (q : Starts first_repeat bound own records.now work.old s) → Started first_repeat bound own records.now work.old work.new s q result }
 {
-    let p = s.p;
-    let memo = s.memo;
     let lo = s.tree.floor as usize;
     let low = s.low as usize;
-    match pack::take_run(records, p, lo, first_repeat, own, bound, memo, work, low) {
-        pack::Taken::Packed(part) => {
-            let built = built_part(work, s, part);
-            StartedNode::Built(built)
-        }
-        pack::Taken::Unpacked(left) => {
-            let pending = pending_node(records, p, left);
-            StartedNode::Pending(pending)
-        }
+    match pack::take_run(
+        records,
+        s.p,
+        lo,
+        first_repeat,
+        own,
+        bound,
+        s.memo,
+        work,
+        low,
+    ) {
+        Ok(part) => StartedNode::Built(built_part(work, s, part)),
+        Err(memo) => StartedNode::Pending(pending_node(records, s.p, memo)),
     }
 }

@@ -1,16 +1,19 @@
 // One step of the take loop: a tree is closed, or the last record is passed over or taken.
 ghost use Rattle.std.specs.Prelude.{◌≡◌, ◌+◌, ◌≤◌, ◌<◌};
 ghost use Rattle.store.specs.Store.{node_width};
-ghost use Rattle.cursor.specs.Own.{own_of};
 ghost use Rattle.take.specs.Starting.{Starts};
 ghost use Rattle.take.specs.Loop.{own_at, WithPart, TookRecord, Unfinished, Stepped};
 ghost use Rattle.take.specs.Steps.{Passes, Passed, Closes, Closed, Opens, Opened, Deepens, Deepened};
 
 use crate::nodes::start_node;
 use crate::waiting::{FRAME_WIDTH, pop_frame, push_frame};
-use crate::{BuiltNode, Node, StartedNode, State};
+use crate::{BuiltNode, PendingNode, StartedNode, State};
+use gathering::Gathering;
 use store::NODE_WIDTH;
 use words::RECORD_WIDTH;
+
+// A tree below more trees than these goes to flat parts.
+const MOST_OPEN: usize = 2500;
 
 // A memo of nothing: no walk got past place p.
 fn no_memo(p: usize) -> scan::Memo
@@ -30,21 +33,11 @@ fn pass_record(records: &[u32], bound: u32, work: &mut [u32], s: State) -> State
     requires { Passes records.now work.old bound s }
     ensures { Passed records.now work.old work.new bound s result }
 {
-    let last = records::back(s.p);
-    let id = records::id_at(records, last);
-    let end = records::end_at(records, last);
-    let g = s.children;
-    let tree = s.tree;
-    let memo = s.memo;
-    let children = gathering::pass_over(work, id, end, bound, g);
-    State {
-        p: last,
-        depth: s.depth,
-        low: s.low,
-        tree: tree,
-        children: children,
-        memo: memo,
-    }
+    let p = s.p - 1;
+    let id = records::id_at(records, p);
+    let end = records::end_at(records, p);
+    let children = gathering::pass_over(work, id, end, bound, s.children);
+    State { p, children, ..s }
 }
 
 // Finishes the tree that is read, in front of the children of the tree around it, which is read on.
@@ -53,60 +46,57 @@ fn close_tree(records: &[u32], work: &mut [u32], s: State) -> State
     ensures { Closed records.now work.old work.new s result }
 {
     let depth = s.depth - 1;
-    let f = pop_frame(
-        &*work,
-        records.len() / RECORD_WIDTH + 1 + FRAME_WIDTH * depth,
+    let f = pop_frame(work, records.len() / RECORD_WIDTH + 1 + FRAME_WIDTH * depth);
+    let made = gathering::finish_node(
+        work,
+        s.low,
+        s.tree.id,
+        s.tree.start,
+        s.tree.end,
+        s.children,
+        f.loose,
     );
-    let tree = s.tree;
-    let g = s.children;
-    let made = gathering::finish_node(work, s.low, tree.id, tree.start, tree.end, g, f.loose);
-    let outer = f.tree;
-    let memo = f.memo;
-    let children = gathering::Gathering {
+    let children = Gathering {
         top: made.top,
         groups: f.groups,
         loose: made.node,
         edge: f.edge,
     };
     State {
-        p: s.p,
-        depth: depth,
-        low: s.low,
-        tree: outer,
-        children: children,
-        memo: memo,
+        depth,
+        tree: f.tree,
+        children,
+        memo: f.memo,
+        ..s
     }
 }
 
 // Reads on inside a tree: the tree around it waits, with the memo of its scans.
-fn open_tree(records: &[u32], work: &mut [u32], s: State, node: Node, memo: scan::Memo) -> State
-    requires { Opens records.now work.old s node memo }
-    ensures { Opened records.now work.old work.new s node memo result }
+fn open_tree(records: &[u32], work: &mut [u32], s: State, next: PendingNode) -> State
+    requires { Opens records.now work.old s next.node next.memo }
+    ensures { Opened records.now work.old work.new s next.node next.memo result }
 {
-    let last = records::back(s.p);
-    let tree = s.tree;
-    let g = s.children;
+    let p = s.p - 1;
     push_frame(
         work,
         records.len() / RECORD_WIDTH + 1 + FRAME_WIDTH * s.depth,
-        tree,
-        g,
-        memo,
+        s.tree,
+        s.children,
+        next.memo,
     );
-    let children = gathering::Gathering {
-        top: g.top,
+    let children = Gathering {
         groups: 0,
         loose: 0,
-        edge: node.end,
+        edge: next.node.end,
+        ..s.children
     };
-    let none = no_memo(last);
     State {
-        p: last,
+        p,
         depth: s.depth + 1,
-        low: s.low,
-        tree: node,
-        children: children,
-        memo: none,
+        tree: next.node,
+        children,
+        memo: no_memo(p),
+        ..s
     }
 }
 
@@ -117,50 +107,50 @@ fn take_deep(
     bound: u32,
     work: &mut [u32],
     s: State,
-    node: Node,
-    memo: scan::Memo,
+    next: PendingNode,
 ) -> State
-    requires { Deepens first_repeat bound records.now work.old s node memo }
-    ensures { Deepened first_repeat bound records.now work.old work.new s node memo result }
+    requires { Deepens first_repeat bound records.now work.old s next.node next.memo }
+    ensures { Deepened first_repeat bound records.now work.old work.new s next.node next.memo result }
 {
-    let last = records::back(s.p);
-    let floor = node.floor as usize;
-    let g = s.children;
-    let tree = s.tree;
+    let node = next.node;
+    let p = node.floor as usize;
     let own = cursor::in_repeat(first_repeat, node.id);
-    let inner = gathering::Gathering {
-        top: g.top,
+    let inner = Gathering {
         groups: 0,
         loose: 0,
         edge: node.end,
+        ..s.children
     };
-    let flat = flat::take_flat(records, last, floor, own, bound, work, s.low, inner);
-    let taken = flat.g;
+    let flat = flat::take_flat(records, s.p - 1, p, own, bound, work, s.low, inner);
     let made = gathering::finish_node(
-        work, flat.low, node.id, node.start, node.end, taken, g.loose,
+        work,
+        flat.low,
+        node.id,
+        node.start,
+        node.end,
+        flat.g,
+        s.children.loose,
     );
-    let children = gathering::Gathering {
+    let children = Gathering {
         top: made.top,
-        groups: g.groups,
         loose: made.node,
-        edge: g.edge,
+        ..s.children
     };
     State {
-        p: floor,
-        depth: s.depth,
+        p,
         low: flat.low,
-        tree: tree,
-        children: children,
-        memo: memo,
+        children,
+        memo: next.memo,
+        ..s
     }
 }
 
 // What the children of the tree that is read stand under: the outermost is the top, which is no repeat tree.
-fn own_at(first_repeat: u32, depth: usize, id: u32) -> cursor::InRepeat
-    ensures { own_of result ≡ own_at first_repeat depth id }
+fn own_at(first_repeat: u32, depth: usize, id: u32) -> Option<u32>
+    ensures { result ≡ own_at first_repeat depth id }
 {
     if depth == 0 {
-        return cursor::InRepeat::Plain;
+        return None;
     }
     cursor::in_repeat(first_repeat, id)
 }
@@ -171,22 +161,17 @@ fn with_part(s: State, node: BuiltNode) -> State
     requires p_bound { node.p < 4294967296 }
     ensures { WithPart s node result }
 {
-    let tree = s.tree;
-    let g = s.children;
-    let children = gathering::Gathering {
-        top: g.top + NODE_WIDTH,
-        groups: g.groups,
+    let children = Gathering {
+        top: s.children.top + NODE_WIDTH,
         loose: node.node,
-        edge: g.edge,
+        ..s.children
     };
-    let none = no_memo(node.p);
     State {
         p: node.p,
-        depth: s.depth,
         low: node.low,
-        tree: tree,
-        children: children,
-        memo: none,
+        children,
+        memo: no_memo(node.p),
+        ..s
     }
 }
 
@@ -195,22 +180,20 @@ fn take_record(
     records: &[u32],
     first_repeat: u32,
     bound: u32,
-    own: cursor::InRepeat,
+    own: Option<u32>,
     work: &mut [u32],
     s: State,
 ) -> State
-    requires { Starts first_repeat bound (own_of own) records.now work.old s }
-    ensures { TookRecord first_repeat bound (own_of own) records.now work.old work.new s result }
+    requires { Starts first_repeat bound own records.now work.old s }
+    ensures { TookRecord first_repeat bound own records.now work.old work.new s result }
 {
     match start_node(records, first_repeat, bound, own, work, s) {
         StartedNode::Built(node) => with_part(s, node),
-        StartedNode::Pending(pending) => {
-            let node = pending.node;
-            let memo = pending.memo;
-            if 2500 < s.depth {
-                return take_deep(records, first_repeat, bound, work, s, node, memo);
+        StartedNode::Pending(next) => {
+            if MOST_OPEN < s.depth {
+                return take_deep(records, first_repeat, bound, work, s, next);
             }
-            open_tree(records, work, s, node, memo)
+            open_tree(records, work, s, next)
         }
     }
 }
@@ -220,13 +203,11 @@ pub fn step(records: &[u32], first_repeat: u32, bound: u32, work: &mut [u32], s:
     requires { Unfinished first_repeat bound records.now work.old s }
     ensures { Stepped first_repeat bound records.now work.old work.new s result }
 {
-    let tree = s.tree;
-    let p = s.p;
-    if p <= tree.floor as usize {
+    if s.p <= s.tree.floor as usize {
         return close_tree(records, work, s);
     }
-    let own = own_at(first_repeat, s.depth, tree.id);
-    let id = records::id_at(records, records::back(p));
+    let own = own_at(first_repeat, s.depth, s.tree.id);
+    let id = records::id_at(records, s.p - 1);
     if cursor::is_own(own, id) {
         return pass_record(records, bound, work, s);
     }

@@ -19,17 +19,14 @@ pub fn push_frame(
     requires { at + frame_width ≤ length work.old }
     ensures { work.new ≡ put work.old at (tree.id ∷ tree.start ∷ tree.end ∷ tree.floor ∷ g.groups ∷ g.loose ∷ g.edge ∷ memo.place ∷ memo.start ∷ memo.mark ∷ memo.edge ∷ []) }
 {
-    work[at] = tree.id;
-    work[at + 1] = tree.start;
-    work[at + 2] = tree.end;
-    work[at + 3] = tree.floor;
-    work[at + 4] = g.groups;
-    work[at + 5] = g.loose;
-    work[at + 6] = g.edge;
-    work[at + 7] = memo.place;
-    work[at + 8] = memo.start;
-    work[at + 9] = memo.mark;
-    work[at + 10] = memo.edge;
+    words::put(
+        work,
+        at,
+        &[
+            tree.id, tree.start, tree.end, tree.floor, g.groups, g.loose, g.edge, memo.place,
+            memo.start, memo.mark, memo.edge,
+        ],
+    );
 }
 
 // The frame that stands from an index on.
@@ -37,23 +34,21 @@ pub fn pop_frame(work: &[u32], at: usize) -> Frame
     requires { at + frame_width ≤ length work.now }
     ensures { result ≡ frame_at work.now at }
 {
-    let tree = Node {
-        id: work[at],
-        start: work[at + 1],
-        end: work[at + 2],
-        floor: work[at + 3],
-    };
-    let memo = scan::Memo {
-        place: work[at + 7],
-        start: work[at + 8],
-        mark: work[at + 9],
-        edge: work[at + 10],
-    };
     Frame {
-        tree: tree,
+        tree: Node {
+            id: work[at],
+            start: work[at + 1],
+            end: work[at + 2],
+            floor: work[at + 3],
+        },
         groups: work[at + 4],
         loose: work[at + 5],
         edge: work[at + 6],
-        memo: memo,
+        memo: scan::Memo {
+            place: work[at + 7],
+            start: work[at + 8],
+            mark: work[at + 9],
+            edge: work[at + 10],
+        },
     }
 }

@@ -1,173 +1,118 @@
 // Internal.
-// What the programs that answer line by line share: the input, numbers out of lines of text, the output.
+// What the programs share: lines of text and their numbers, numbers in rows, answers line after line.
 #![tactic(auto)]
 
-ghost use Rattle.std.specs.Prelude.{◌≡◌, ◌+◌, ◌≤◌, length};
+mod answers;
+mod rows;
+
+ghost use Rattle.std.specs.Prelude.{◌≡◌, ◌≢◌, ℕ, ◌<◌, ◌≤◌, ◌↔◌, length, min, slice_index, EachIndex, IfSome, IsTrue, MatchOption};
+ghost use Rattle.std.specs.Int.{IsInRange};
+ghost use Rattle.text.specs.Lines.{IsLine};
+ghost use Rattle.std.specs.Str.Parse.{IsNumeral, digits_value};
+ghost use Rattle.std.specs.Iterator.{at_most};
+
+pub use answers::{Fault, narrow, replay};
+pub use rows::{Spaced, print_rows};
 
 // A number of so many or more is kept as this one, so that no number of digits is too long to read.
 pub const MOST: u64 = 1000000000000000000;
 
-// A number in decimal digits, with a '-' before them where it is negative.
-#[derive(Drop)]
-pub struct Number {
-    pub value: u64,
-    pub negative: bool,
-    // The place behind the last digit; where no number stands, the place that was asked for.
-    pub next: usize,
-}
-
-// What a digit counts, and 10 for any other byte.
-fn digit(byte: u8) -> u64
-    ensures { result ≤ 10 }
+// Is each byte a decimal digit?
+fn all_digits(word: &[u8]) -> bool
+    ensures { IsTrue result ↔ EachIndex word.now (λ k. IsInRange 48 57 (slice_index word.now k)) }
 {
-    if byte < b'0' {
-        return 10;
-    }
-    if b'9' < byte {
-        return 10;
-    }
-    (byte - b'0') as u64
+    word.iter().all(|byte| byte.is_ascii_digit())
 }
 
-// A value with one digit more behind it.
-fn grown(value: u64, digit: u64) -> u64
-    requires { digit ≤ 9 }
-    ensures { result ≤ 1000000000000000000 }
+// Is it a word of decimal digits, one or more?
+fn is_numeral(word: &[u8]) -> bool
+    ensures { IsTrue result ↔ IsNumeral 10 word.now }
 {
-    if value < MOST / 10 {
-        return value * 10 + digit;
-    }
-    MOST
+    !word.is_empty() && all_digits(word)
 }
 
-// The digits from a place on.
-fn digits_at(text: &[u8], from: usize) -> Number
-    requires { from ≤ length text.now }
-    ensures from_le_next { from ≤ result.next }
-    ensures next_in_bounds { result.next ≤ length text.now }
-    ensures value_bound { result.value ≤ 1000000000000000000 }
+// The number that a word of decimal digits spells; none where it holds anything else, or nothing.
+pub fn number(word: &[u8]) -> Option<u64>
+    ensures { MatchOption result (¬ (IsNumeral 10 word.now)) (λ value. IsNumeral 10 word.now × (value ≡ min (digits_value 10 word.now) 1000000000000000000)) }
 {
-    let mut value: u64 = 0;
-    let mut next = from;
-    while next < text.len() {
-        let more = digit(text[next]);
-        if 9 < more {
-            break;
-        }
-        value = grown(value, more);
-        next += 1;
+    if !is_numeral(word) {
+        return None;
     }
-    Number {
-        value: value,
-        negative: false,
-        next: next,
+    let Ok(digits) = str::from_utf8(word) else {
+        return None;
+    };
+    // Of digits alone, only a number above 64 bits is not parsed.
+    Some(digits.parse::<u64>().unwrap_or(MOST).min(MOST))
+}
+
+// The number that a word spells, in decimal digits and with a '-' before them where it is negative, in one word: a
+// negative one in two's complement.
+fn signed(word: &[u8]) -> Option<u64> {
+    match word {
+        [b'-', digits @ ..] => Some(number(digits)?.wrapping_neg()),
+        _ => number(word),
     }
 }
 
-// The place behind a '-', if one stands there.
-fn sign_at(text: &[u8], from: usize) -> usize
-    requires { from ≤ length text.now }
-    ensures lower_bound { from ≤ result }
-    ensures upper_bound { result ≤ length text.now }
-{
-    if from < text.len() {
-        if text[from] == b'-' {
-            return from + 1;
-        }
-    }
-    from
-}
-
-// The number that stands at a place.
-pub fn number_at(text: &[u8], from: usize) -> Number
-    requires { from ≤ length text.now }
-    ensures from_le_next { from ≤ result.next }
-    ensures next_in_bounds { result.next ≤ length text.now }
-    ensures value_bound { result.value ≤ 1000000000000000000 }
-{
-    let start = sign_at(text, from);
-    let digits = digits_at(text, start);
-    if digits.next == start {
-        return Number {
-            value: 0,
-            negative: false,
-            next: from,
-        };
-    }
-    Number {
-        value: digits.value,
-        negative: from < start,
-        next: digits.next,
-    }
-}
-
-// A number in one word, a negative one in two's complement.
-fn word_of(number: Number) -> u64 {
-    if number.negative {
-        return std::num::wrapping_sub_u64(0, number.value);
-    }
-    number.value
-}
-
-// Puts the numbers of a line, with a space between any two, at the front of `out`, and answers how many they are: 0
-// where the line holds anything else or more numbers than there is room for.
-pub fn numbers(line: &[u8], out: &mut [u64]) -> usize
-    ensures { result ≤ length out.new }
+// The numbers of a line, with a space between any two, at the front of `out`; none where the line holds anything else or
+// more numbers than there is room for.
+pub fn numbers<'a>(line: &[u8], out: &'a mut [u64]) -> Option<&'a [u64]>
+    ensures { IfSome result (λ given. length given.now ≤ length out.old) }
 {
     let mut count: usize = 0;
-    let mut at: usize = 0;
-    while count < out.len() {
-        let number = number_at(line, at);
-        let next = number.next;
-        if next == at {
-            return 0;
-        }
-        out[count] = word_of(number);
+    for word in line.split(|byte| *byte == b' ') {
+        *out.get_mut(count)? = signed(word)?;
         count += 1;
-        if next == line.len() {
-            return count;
-        }
-        if line[next] != b' ' {
-            return 0;
-        }
-        at = next + 1;
     }
-    0
-}
-
-// A number of 8 bits with a sign.
-#[derive(Drop)]
-pub enum Small {
-    Of(i8),
-    Wide,
+    Some(&out[..count])
 }
 
 // One of the words that `numbers` leaves, as a number of 8 bits with a sign.
-pub fn small_of(word: u64) -> Small {
-    if word <= 127 {
-        return Small::Of(word as i8);
-    }
-    let above = 18446744073709551615 - word;
-    if above <= 127 {
-        return Small::Of(!(above as i8));
-    }
-    Small::Wide
+pub fn small_of(word: u64) -> Option<i8> {
+    i8::try_from(word.cast_signed()).ok()
 }
 
-// Where the line that goes on at a place ends: the place of its line break, or the end of the text.
-pub fn line_end(text: &[u8], from: usize) -> usize
-    requires { from ≤ length text.now }
-    ensures lower_bound { from ≤ result }
-    ensures upper_bound { result ≤ length text.now }
+// Where the first line of a text ends: the place of its line break, or the end of the text.
+fn line_end(text: &[u8]) -> usize
+    ensures bound { result ≤ length text.now }
+    ensures before { (k : ℕ) → k < result → slice_index text.now k ≢ 10 }
+    ensures at { result < length text.now → slice_index text.now result ≡ 10 }
 {
-    let mut at = from;
-    while at < text.len() {
-        if text[at] == b'\n' {
-            return at;
-        }
-        at += 1;
+    match text.iter().position(|byte| *byte == b'\n') {
+        Some(end) => end,
+        None => text.len(),
     }
-    at
+}
+
+// The lines of a text, each without its line break.
+#[derive(Drop)]
+pub struct TextLines<'a> {
+    rest: &'a [u8],
+}
+
+pub fn lines(text: &[u8]) -> TextLines<'_>
+    ensures { result.rest.now ≡ text.now }
+{
+    TextLines { rest: text }
+}
+
+impl<'a> Iterator for TextLines<'a> {
+    type Item = &'a [u8];
+
+    // A line stands in front of what is left, holds no line break, and has one behind it unless the text ends there.
+    ghost next_gives = { λ s next t. MatchOption next (length s.rest.now ≡ 0) (λ line. IsLine s.rest.now line.now t.rest.now) };
+
+    ghost remaining = { λ s. at_most (length s.rest.now) };
+
+    fn next(&mut self) -> Option<&'a [u8]> {
+        if self.rest.is_empty() {
+            return None;
+        }
+        let text = self.rest;
+        let end = line_end(text);
+        self.rest = &text[text.len().min(end + 1)..];
+        Some(&text[..end])
+    }
 }
 
 // Room for the whole input. It comes from a function, so that no proof of what is done with it holds its every byte.
@@ -175,8 +120,4 @@ pub fn input_room() -> [u8; 1048576]
     ensures { 1048576 ≡ length result }
 {
     [0; 1048576]
-}
-
-pub fn print(text: &[u8]) {
-    io::write_all(1, text);
 }

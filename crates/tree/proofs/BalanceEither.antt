@@ -3,7 +3,7 @@
 use mathlib.Core.Path.{◌≡◌, refl, sym, ap, ap₂, ◌∙◌}
 use mathlib.Core.Bool.{Bool, true, false, ◌&&◌}
 use mathlib.Core.List.{List, [], ◌∷◌, ◌++◌, append_assoc, append-eq-nil_iff, cons≢nil}
-use mathlib.Core.Option.{Option, none, some}
+use Rattle.std.specs.Prelude.{Option, None, Some}
 use Prim.Native.Nat.{ℕ, zero, suc, ◌+◌, ◌-◌}
 use lib.Dec.{T, ltb, eqb-zero-suc, eqb-suc-zero}
 use Rattle.tree.specs.Trees.{Trees, nil, tree, part, ◌⊕◌, kids_of, first_start, last_end}
@@ -13,8 +13,8 @@ use Rattle.tree.proofs.BalanceLaws.{each_groups, kept_divided, kept_balance}
 -- the starts of the trees of `NodeType::none` among siblings and their descendants, in order; parts hold none
 unfoldable pub nones : Trees → List ℕ
 nones nil = []
-nones (tree none s l kids rest) = s ∷ (nones kids ++ nones rest)
-nones (tree (some i) s l kids rest) = nones kids ++ nones rest
+nones (tree None s l kids rest) = s ∷ (nones kids ++ nones rest)
+nones (tree (Some i) s l kids rest) = nones kids ++ nones rest
 nones (part s l ws rest) = nones rest
 
 -- trees without kind 3
@@ -24,8 +24,8 @@ Free ts = nones ts ≡ []
 pub nones-⊕ : (ts us : Trees) → nones (ts ⊕ us) ≡ nones ts ++ nones us
 unfolding nones ◌⊕◌
 nones-⊕ nil us = refl
-nones-⊕ (tree none s l kids rest) us = simp (nones-⊕ rest us, append_assoc)
-nones-⊕ (tree (some i) s l kids rest) us = simp (nones-⊕ rest us, append_assoc)
+nones-⊕ (tree None s l kids rest) us = simp (nones-⊕ rest us, append_assoc)
+nones-⊕ (tree (Some i) s l kids rest) us = simp (nones-⊕ rest us, append_assoc)
 nones-⊕ (part s l ws rest) us = nones-⊕ rest us
 
 pub free_nil : Free nil
@@ -38,7 +38,7 @@ free-⊕ ts us a b = nones-⊕ ts us ∙ append-eq-nil_iff.1 (a, b)
 free_split : (ts us : Trees) → Free (ts ⊕ us) → Free ts × Free us
 free_split ts us h = append-eq-nil_iff.0 (sym (nones-⊕ ts us) ∙ h)
 
-pub free_tree : (i s l : ℕ) (kids rest : Trees) → Free kids → Free rest → Free (tree (some i) s l kids rest)
+pub free_tree : (i s l : ℕ) (kids rest : Trees) → Free kids → Free rest → Free (tree (Some i) s l kids rest)
 unfolding nones
 free_tree i s l kids rest a b = append-eq-nil_iff.1 (a, b)
 
@@ -47,7 +47,7 @@ unfolding nones
 free_part s l ws rest h = h
 
 -- a tree without kind 3 has an id, and so have all below it and behind it
-free_none : (s l : ℕ) (kids rest : Trees) → Free (tree none s l kids rest) → ⊥
+free_none : (s l : ℕ) (kids rest : Trees) → Free (tree None s l kids rest) → ⊥
 unfolding nones
 free_none s l kids rest h = cons≢nil h
 
@@ -55,35 +55,35 @@ free_behind : (s l : ℕ) (ws : List ℕ) (rest : Trees) → Free (part s l ws r
 unfolding nones
 free_behind s l ws rest h = h
 
-free_some : (j s l : ℕ) (kids rest : Trees) → Free (tree (some j) s l kids rest) → Free kids × Free rest
+free_some : (j s l : ℕ) (kids rest : Trees) → Free (tree (Some j) s l kids rest) → Free kids × Free rest
 unfolding nones
 free_some j s l kids rest h = append-eq-nil_iff.0 h
 
 free_kids : (ts : Trees) → Free ts → Free (kids_of ts)
 unfolding kids_of
 free_kids nil h = h
-free_kids (tree none s l kids rest) h = absurd (free_none s l kids rest h)
-free_kids (tree (some j) s l kids rest) h = (free_some j s l kids rest h).0
+free_kids (tree None s l kids rest) h = absurd (free_none s l kids rest h)
+free_kids (tree (Some j) s l kids rest) h = (free_some j s l kids rest h).0
 free_kids (part s l ws rest) h = free_nil
 
 -- dividing and balancing by an id, under a set without none, make no tree of kind 3
 module _ (i : ℕ) where
-  through : (v : Option ℕ) (s l : ℕ) (kids rest : Trees) → T (same_type (in_set false (some i)) v) → nones (tree v s l kids rest) ≡ nones kids ++ nones rest
+  through : (v : Option ℕ) (s l : ℕ) (kids rest : Trees) → T (same_type (in_set false (Some i)) v) → nones (tree v s l kids rest) ≡ nones kids ++ nones rest
   unfolding nones equal_types
-  through none s l kids rest h = absurd h
-  through (some j) s l kids rest h = refl
+  through None s l kids rest h = absurd h
+  through (Some j) s l kids rest h = refl
 
-  free_divide : (n : ℕ) (ts : Trees) → Free ts → Free (divide n (in_set false (some i)) (share (total (in_set false (some i)) ts)) ts)
+  free_divide : (n : ℕ) (ts : Trees) → Free ts → Free (divide n (in_set false (Some i)) (share (total (in_set false (Some i)) ts)) ts)
   unfolding nones divide
   free_divide zero ts h = h
-  free_divide (suc n) ts h = kept_divided nones refl nones-⊕ (in_set false (some i)) through n ts ∙ h
+  free_divide (suc n) ts h = kept_divided nones refl nones-⊕ (in_set false (Some i)) through n ts ∙ h
 
-  pub free_balance : (s l : ℕ) (ts : Trees) → Free ts → Free (balance (in_set false (some i)) (in_set false (some i)) s l ts)
+  pub free_balance : (s l : ℕ) (ts : Trees) → Free ts → Free (balance (in_set false (Some i)) (in_set false (Some i)) s l ts)
   unfolding nones
-  free_balance s l ts h = kept_balance nones refl nones-⊕ (in_set false (some i)) through s l ts ∙ h
+  free_balance s l ts h = kept_balance nones refl nones-⊕ (in_set false (Some i)) through s l ts ∙ h
 
 -- of two ids both sets say the same
-same_either : (none_first : Bool) (i j : ℕ) → same_type (in_set none_first (some i)) (some j) ≡ same_type (in_set false (some i)) (some j)
+same_either : (none_first : Bool) (i j : ℕ) → same_type (in_set none_first (Some i)) (Some j) ≡ same_type (in_set false (Some i)) (Some j)
 unfolding equal_types
 same_either false i j = refl
 same_either true zero zero = refl
@@ -94,25 +94,25 @@ same_either true (suc i) (suc j) = refl
 module _ (none_first : Bool) (i : ℕ) where
   -- the balance type under the set at hand, and under the one without none
   abbrev t : SetType
-  t = in_set none_first (some i)
+  t = in_set none_first (Some i)
 
   abbrev u : SetType
-  u = in_set false (some i)
+  u = in_set false (Some i)
 
   all_either : (ts : Trees) → Free ts → all_of t ts ≡ all_of u ts
   unfolding all_of
   all_either nil h = refl
-  all_either (tree none s l kids rest) h = absurd (free_none s l kids rest h)
-  all_either (tree (some j) s l kids rest) h = ap₂ ◌&&◌ (same_either none_first i j) (all_either rest (free_some j s l kids rest h).1)
+  all_either (tree None s l kids rest) h = absurd (free_none s l kids rest h)
+  all_either (tree (Some j) s l kids rest) h = ap₂ ◌&&◌ (same_either none_first i j) (all_either rest (free_some j s l kids rest h).1)
   all_either (part s l ws rest) h = refl
 
   total_either : (ts : Trees) → Free ts → total t ts ≡ total u ts
   unfolding total
   total_either nil h = refl
-  total_either (tree none s l kids rest) h = absurd (free_none s l kids rest h)
-  total_either (tree (some j) s l kids rest) h =
+  total_either (tree None s l kids rest) h = absurd (free_none s l kids rest h)
+  total_either (tree (Some j) s l kids rest) h =
       let (a, b) = free_some j s l kids rest h in
-      rw (same_either none_first i j, all_either kids a) (go (same_type u (some j) && all_of u kids) (total_either kids a) (total_either rest b))
+      rw (same_either none_first i j, all_either kids a) (go (same_type u (Some j) && all_of u kids) (total_either kids a) (total_either rest b))
     where
       go : (x : Bool) → total t kids ≡ total u kids → total t rest ≡ total u rest
           → elim x [ true ↦ suc (total t kids) | false ↦ 1 ] + total t rest ≡ elim x [ true ↦ suc (total u kids) | false ↦ 1 ] + total u rest
@@ -137,10 +137,10 @@ module _ (none_first : Bool) (i : ℕ) where
   groups_from_either : (m : ℕ) (cur : Trees) (n : ℕ) (ts : Trees) → Free ts → groups_from t m cur n ts ≡ groups_from u m cur n ts
   unfolding groups_from
   groups_from_either m cur n nil h = refl
-  groups_from_either m cur n (tree none s l kids rest) h = absurd (free_none s l kids rest h)
-  groups_from_either m cur n (tree (some j) s l kids rest) h =
+  groups_from_either m cur n (tree None s l kids rest) h = absurd (free_none s l kids rest h)
+  groups_from_either m cur n (tree (Some j) s l kids rest) h =
       let (a, b) = free_some j s l kids rest h in
-      let c = tree (some j) s l kids nil in
+      let c = tree (Some j) s l kids nil in
       let e = total_either c (free_tree j s l kids nil a free_nil) in
       groups_step m cur n c rest (total t c) (total u c) e (λ cur' k. groups_from_either m cur' k rest b)
   groups_from_either m cur n (part s l ws rest) h =
@@ -149,18 +149,18 @@ module _ (none_first : Bool) (i : ℕ) where
   groups_either : (m : ℕ) (ts : Trees) → Free ts → groups t m ts ≡ groups u m ts
   unfolding groups
   groups_either m nil h = refl
-  groups_either m (tree none s l kids rest) h = absurd (free_none s l kids rest h)
-  groups_either m (tree (some j) s l kids rest) h =
+  groups_either m (tree None s l kids rest) h = absurd (free_none s l kids rest h)
+  groups_either m (tree (Some j) s l kids rest) h =
       let (a, b) = free_some j s l kids rest h in
-      let c = tree (some j) s l kids nil in
+      let c = tree (Some j) s l kids nil in
       rw (total_either c (free_tree j s l kids nil a free_nil)) (groups_from_either m c (total u c) rest b)
   groups_either m (part s l ws rest) h = groups_from_either m (part s l ws nil) 1 rest (free_behind s l ws rest h)
 
   is_tree_either : (s l : ℕ) (ts : Trees) → Free ts → is_tree t s l ts ≡ is_tree u s l ts
   unfolding is_tree
   is_tree_either s l nil h = refl
-  is_tree_either s l (tree none s' l' kids rest) h = absurd (free_none s' l' kids rest h)
-  is_tree_either s l (tree (some j) s' l' kids rest) h = rw (same_either none_first i j)
+  is_tree_either s l (tree None s' l' kids rest) h = absurd (free_none s' l' kids rest h)
+  is_tree_either s l (tree (Some j) s' l' kids rest) h = rw (same_either none_first i j)
   is_tree_either s l (part s' l' ws rest) h = refl
 
   joined_either : (s l : ℕ) (kids : Trees) → Free kids → joined t s l kids ≡ joined u s l kids
@@ -211,8 +211,8 @@ module _ (none_first : Bool) (i : ℕ) where
 
 -- a tree over trees without kind 3 is balanced alike on either set
 pub balance_either : (none_first : Bool) (i s l : ℕ) (ts : Trees) → nones ts ≡ []
-    → balance (in_set none_first (some i)) (in_set none_first (some i)) s l ts ≡ balance (in_set false (some i)) (in_set false (some i)) s l ts
+    → balance (in_set none_first (Some i)) (in_set none_first (Some i)) s l ts ≡ balance (in_set false (Some i)) (in_set false (Some i)) s l ts
 unfolding balance
 balance_either none_first i s l ts h =
-    let n = total (in_set false (some i)) ts in
+    let n = total (in_set false (Some i)) ts in
     rw (total_either none_first i ts h, divide_either none_first i (suc n) (share n) ts h) (joined_either none_first i s l _ (free_divide i (suc n) ts h))

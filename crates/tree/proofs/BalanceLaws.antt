@@ -3,7 +3,7 @@
 use mathlib.Core.Path.{◌≡◌, refl, sym, ap, ap₂, ◌∙◌}
 use mathlib.Core.Bool.{Bool, true, false, ◌&&◌}
 use mathlib.Core.List.{List, [], ◌∷◌, ◌++◌, append-nil}
-use mathlib.Core.Option.{Option, none, some}
+use Rattle.std.specs.Prelude.{Option, None, Some}
 use Prim.Native.Nat.{ℕ, zero, suc, ◌+◌, ◌≤◌, ◌<◌}
 use native.Mathlib.Omega.{arith}
 use lib.Dec.{T, ltb, ltb→lt, eqb→eq, eqb_refl}
@@ -15,15 +15,15 @@ use Rattle.tree.proofs.PackLaws.{line_repeat, below_repeat}
 
 -- trees of this type are not listed
 abbrev pub Hidden : (F : ℕ) → Option ℕ → Type 0
-Hidden F none = Unit {0}
-Hidden F (some i) = ltb i F ≡ false
+Hidden F None = Unit {0}
+Hidden F (Some i) = ltb i F ≡ false
 
 pub view_hidden : (F d : ℕ) (t : Option ℕ) (s l : ℕ) (kids rest : Trees) → Hidden F t
     → view F d (tree t s l kids rest) ≡ view F d kids ++ view F d rest
 unfolding node_line node_below
-view_hidden F d none s l kids rest h = view_tree F d none s l kids rest
-view_hidden F d (some i) s l kids rest h =
-    rw (view_tree F d (some i) s l kids rest, line_repeat F d i s (s + l) h, below_repeat F d i h)
+view_hidden F d None s l kids rest h = view_tree F d None s l kids rest
+view_hidden F d (Some i) s l kids rest h =
+    rw (view_tree F d (Some i) s l kids rest, line_repeat F d i s (s + l) h, below_repeat F d i h)
 
 -- the groups side by side are the siblings
 module _ (t : SetType) (m : ℕ) where
@@ -55,18 +55,18 @@ module _ (t : SetType) (m : ℕ) where
 -- a type that equals a hidden one is hidden
 pub same_hidden : (F : ℕ) (t u : Option ℕ) → T (equal_types t u) → Hidden F t → Hidden F u
 unfolding equal_types
-same_hidden F none none e h = tt
-same_hidden F none (some i) e h = absurd e
-same_hidden F (some r) none e h = absurd e
-same_hidden F (some r) (some i) e h = rw (eqb→eq r i e) at h
+same_hidden F None None e h = tt
+same_hidden F None (Some i) e h = absurd e
+same_hidden F (Some r) None e h = absurd e
+same_hidden F (Some r) (Some i) e h = rw (eqb→eq r i e) at h
 
 -- types that compare equal are the same
 pub equal_is : (t u : Option ℕ) → T (equal_types t u) → t ≡ u
 unfolding equal_types
-equal_is none none e = refl
-equal_is none (some i) e = absurd e
-equal_is (some r) none e = absurd e
-equal_is (some r) (some i) e = ap some (eqb→eq r i e)
+equal_is None None e = refl
+equal_is None (Some i) e = absurd e
+equal_is (Some r) None e = absurd e
+equal_is (Some r) (Some i) e = ap Some (eqb→eq r i e)
 
 -- a type goes into balanced sizes only as what it counts as
 module _ (f : Bool) (t u : Option ℕ) (e : type_under f t ≡ type_under f u) where
@@ -115,8 +115,8 @@ share_pos n h = omega arith
 
 equal_refl : (t : Option ℕ) → T (equal_types t t)
 unfolding equal_types
-equal_refl none = tt
-equal_refl (some i) = eqb_refl i
+equal_refl None = tt
+equal_refl (Some i) = eqb_refl i
 
 pub same_refl : (t : SetType) → T (same_type t t.type)
 same_refl t = equal_refl (type_under t.none_first t.type)

@@ -4,7 +4,7 @@
 use mathlib.Core.Path.{◌≡◌, refl, sym, ap, ap₂, subst, ◌∙◌}
 use mathlib.Core.Bool.{Bool, true, false}
 use mathlib.Core.List.{List, ◌++◌}
-use mathlib.Core.Option.{Option, none, some}
+use Rattle.std.specs.Prelude.{Option, None, Some}
 use Prim.Native.Nat.{ℕ, ◌+◌}
 use lib.ListN.{length}
 use Rattle.records.specs.Forest.{line, depth_below}
@@ -61,7 +61,7 @@ module _ (f : Bool) where
       ∙ listing-⊕ F d (as_counted f (shift S (materialise ts))) (as_counted f (shift S (materialise us)))))
 
   -- a tree that counts as none has no line, and its children keep their depth
-  seen_none : (F d S : ℕ) (u : Option ℕ) (s l : ℕ) (kids rest : Trees) → type_under f u ≡ none
+  seen_none : (F d S : ℕ) (u : Option ℕ) (s l : ℕ) (kids rest : Trees) → type_under f u ≡ None
       → seen F d S (tree u s l kids rest) ≡ seen F d S kids ++ seen F d S rest
   unfolding seen materialise shift as_counted listing node_line node_below
   seen_none F d S u s l kids rest e = rw e
@@ -108,13 +108,13 @@ view_balanced F d (tree t s l kids rest) =
 -- A node of id 0 goes: a top with eight leaves of id 1 and a ninth child of id 0 that holds three leaves of kind 3. Where place 0 of the
 -- set is none, the ninth counts as none and is divided in place.
 unfoldable pub ninth : Trees
-ninth = tree (some 0) 8 3 (tree none 8 1 nil (tree none 9 1 nil (tree none 10 1 nil nil))) nil
+ninth = tree (Some 0) 8 3 (tree None 8 1 nil (tree None 9 1 nil (tree None 10 1 nil nil))) nil
 
 abbrev leaf : ℕ → Trees → Trees
-leaf s rest = tree (some 1) s 1 nil rest
+leaf s rest = tree (Some 1) s 1 nil rest
 
 unfoldable pub nine : Trees
-nine = tree (some 1) 0 11 (leaf 0 (leaf 1 (leaf 2 (leaf 3 (leaf 4 (leaf 5 (leaf 6 (leaf 7 ninth)))))))) nil
+nine = tree (Some 1) 0 11 (leaf 0 (leaf 1 (leaf 2 (leaf 3 (leaf 4 (leaf 5 (leaf 6 (leaf 7 ninth)))))))) nil
 
 -- nine lines before and on a set without none, eight on a set with it
 pub one_goes : (length (lines 2 nine) ≡ 36) × (length (lines 2 (balanced false nine)) ≡ 36) × (length (lines 2 (balanced true nine)) ≡ 32)

@@ -4,7 +4,7 @@
 use mathlib.Core.Path.{◌≡◌, refl, sym, ap, subst, ◌∙◌}
 use mathlib.Core.Bool.{Bool, true, false, ◌&&◌}
 use mathlib.Core.List.{List, [], ◌∷◌, ◌++◌, append-nil}
-use mathlib.Core.Option.{Option, none, some}
+use Rattle.std.specs.Prelude.{Option, None, Some}
 use Prim.Native.Nat.{ℕ, zero, suc, ◌+◌, ◌-◌, ◌*◌, ◌≤◌, ◌<◌}
 use native.Mathlib.Decide.{dec_le}
 use native.Mathlib.Omega.{arith}
@@ -120,14 +120,14 @@ total_nodes t (tree u s l kids rest) = go (same_type t u && all_of t kids) (tota
 total_nodes t (part s l ws rest) = omega (arith, total_nodes t rest)
 
 -- a type that counts as none
-counts_none : (f : Bool) (u : Option ℕ) → So (same_type (in_set f none) u) → type_under f u ≡ none
-counts_none false u e = sym (equal_is none u e)
-counts_none true u e = sym (equal_is none (type_under true u) e)
+counts_none : (f : Bool) (u : Option ℕ) → So (same_type (in_set f None) u) → type_under f u ≡ None
+counts_none false u e = sym (equal_is None u e)
+counts_none true u e = sym (equal_is None (type_under true u) e)
 
 module _ (f : Bool) where
   -- the balance type
   abbrev t : SetType
-  t = in_set f none
+  t = in_set f None
 
   -- the children of a balanced tree that has more than 8
   unfoldable pub divided : Trees → Trees
@@ -165,7 +165,7 @@ module _ (f : Bool) where
 
   -- Whatever is read off siblings one after the other and passes through trees that count as `NodeType::none` is kept.
   module _ (off : Trees → List ℕ) (off_nil : off nil ≡ []) (off-⊕ : (ts us : Trees) → off (ts ⊕ us) ≡ off ts ++ off us)
-      (off-none : (u : Option ℕ) (s l : ℕ) (kids rest : Trees) → type_under f u ≡ none → off (tree u s l kids rest) ≡ off kids ++ off rest) where
+      (off-none : (u : Option ℕ) (s l : ℕ) (kids rest : Trees) → type_under f u ≡ None → off (tree u s l kids rest) ≡ off kids ++ off rest) where
     pub divided_keeps : (kids : Trees) → off (divided kids) ≡ off kids
     unfolding divided
     divided_keeps kids = kept_divided off off_nil off-⊕ t (λ u s l ks r e. off-none u s l ks r (counts_none f u e)) (total t kids) kids
@@ -220,7 +220,7 @@ module _ (f : Bool) where
   pub balance_keeps : (T hi : ℕ) (cs ws : List ℕ) → Kept T hi cs ws → Kept T hi (balance_cells f cs ws).cells (balance_cells f cs ws).words
   unfolding balance_cells written tree_cells packed
   balance_keeps T hi cs ws k =
-      let same = ap (balanced f) (kept_read T hi cs ws k) ∙ balanced_is (some k.top) 0 k.length k.kids nil in
+      let same = ap (balanced f) (kept_read T hi cs ws k) ∙ balanced_is (Some k.top) 0 k.length k.kids nil in
       record {
         top = k.top;
         length = k.length;

@@ -2,7 +2,7 @@
 -- trees. Assumes nothing.
 use mathlib.Core.Path.{◌≡◌, ◌∙◌}
 use mathlib.Core.List.{List, append-nil}
-use mathlib.Core.Option.{Option, none}
+use Rattle.std.specs.Prelude.{Option, None}
 use Prim.Native.Nat.{ℕ, ◌+◌, ◌≤◌}
 use native.Mathlib.Omega.{arith}
 use native.Mathlib.Nat.{le_refl}
@@ -23,12 +23,12 @@ module _ (T F b : ℕ) (f : Forest) (lo hi : ℕ) (nested : Nested T lo hi f) (d
   view_first_level : view F 0 (first_level F b lo f) ≡ reading F 0 f
   unfolding first_level gview after reads height
   view_first_level =
-      let its = items F none f Items.nil in
-      let g = walk F b its 0 0 none (fresh (behind lo f)) in
-      let fits = fits_items F T none (own_none F) f lo hi lo Items.nil nested (le_refl lo) in
-      let low : height its + 0 ≤ 2503 = omega (arith, height_items F none f Items.nil) in
-      view-⊕ F 0 g.loose g.groups ∙ (gview_walk F T b its lo hi fits 0 low 0 0 none (fresh (behind lo f))
-      ∙ rw (gview_fresh, reads_items F none (own_none F) 0 f Items.nil) (append-nil _))
+      let its = items F None f Items.nil in
+      let g = walk F b its 0 0 None (fresh (behind lo f)) in
+      let fits = fits_items F T None (own_none F) f lo hi lo Items.nil nested (le_refl lo) in
+      let low : height its + 0 ≤ 2503 = omega (arith, height_items F None f Items.nil) in
+      view-⊕ F 0 g.loose g.groups ∙ (gview_walk F T b its lo hi fits 0 low 0 0 None (fresh (behind lo f))
+      ∙ rw (gview_fresh, reads_items F None (own_none F) 0 f Items.nil) (append-nil _))
 
 -- build, materialise, list
 unfoldable pub tree_lines : (F b S top : ℕ) (given : Option ℕ) → Forest → List ℕ

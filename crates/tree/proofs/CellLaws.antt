@@ -2,7 +2,7 @@
 -- nothing else. By induction on the trees. Assumes nothing.
 use mathlib.Core.Path.{◌≡◌, refl, sym, ap, ap₂, ◌∙◌}
 use mathlib.Core.List.{List, [], ◌∷◌, ◌++◌, append_assoc, append-nil}
-use mathlib.Core.Option.{Option, none, some}
+use Rattle.std.specs.Prelude.{Option, None, Some}
 use Prim.Native.Nat.{ℕ, zero, suc, ◌+◌, ◌-◌, ◌*◌, ◌/◌, ◌≤◌, ◌<◌}
 use native.Mathlib.Omega.{arith}
 use native.Mathlib.Nat.{le_refl, zero-add, add-zero}
@@ -41,8 +41,8 @@ following-⊕ (part s l ws rest) us = following-⊕ rest us
 module _ (ws : List ℕ) where
   cell_tree_tree : (t : Option ℕ) (s l a n : ℕ) (ts : Trees) → cell_tree ws (kind t) (id_word t) s l a n ts ≡ tree t s l (leading ts n) (following ts n)
   unfolding cell_tree kind id_word
-  cell_tree_tree none s l a n ts = refl
-  cell_tree_tree (some i) s l a n ts = refl
+  cell_tree_tree None s l a n ts = refl
+  cell_tree_tree (Some i) s l a n ts = refl
 
   cell_tree_part : (s l a n : ℕ) (ts : Trees) → cell_tree ws 2 0 s l a n ts ≡ part s l (take n (drop a ws)) ts
   unfolding cell_tree

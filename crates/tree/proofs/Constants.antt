@@ -3,7 +3,7 @@
 -- Assumes nothing.
 use mathlib.Core.Path.{◌≡◌, refl}
 use mathlib.Core.List.{List, [], ◌∷◌}
-use mathlib.Core.Option.{Option, none, some}
+use Rattle.std.specs.Prelude.{Option, None, Some}
 use mathlib.Core.Bool.{false, ◌||◌}
 use Prim.Native.Nat.{ℕ, ◌+◌, ◌-◌, ◌*◌, ◌≤◌, ◌<◌}
 use native.Mathlib.Omega.{arith}
@@ -24,7 +24,7 @@ share_least n = (omega arith, omega arith)
 
 -- n leaf trees, and behind them a tree of `NodeType::none` that holds three of its kind
 abbrev pub one_wide : (n : ℕ) → Trees
-one_wide n = tree (some 0) 0 (n + 3) (leaves n 0 ⊕ tree none n 3 (tree none n 1 nil (tree none (n + 1) 1 nil (tree none (n + 2) 1 nil nil))) nil) nil
+one_wide n = tree (Some 0) 0 (n + 3) (leaves n 0 ⊕ tree None n 3 (tree None n 1 nil (tree None (n + 1) 1 nil (tree None (n + 2) 1 nil nil))) nil) nil
 
 -- `Tree::balance` "leaves up to 8 children untouched": eight stay, nine become six
 pub eight_untouched : (balanced false (one_wide 7) ≡ one_wide 7) × (siblings (kids_of (balanced false (one_wide 8))) ≡ 6)

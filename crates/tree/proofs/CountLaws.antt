@@ -3,7 +3,7 @@
 use mathlib.Core.Path.{◌≡◌, refl}
 use mathlib.Core.Bool.{Bool, true, false, ◌&&◌, ◌||◌, not}
 use mathlib.Core.List.{List, [], ◌∷◌}
-use mathlib.Core.Option.{Option, none, some}
+use Rattle.std.specs.Prelude.{Option, None, Some}
 use Prim.Native.Nat.{ℕ, zero, suc, ◌+◌, ◌-◌, ◌*◌, ◌≤◌}
 use native.Mathlib.Omega.{arith}
 use native.Mathlib.Nat.{le_refl}
@@ -32,7 +32,7 @@ module _ (c : List ℕ → ℕ) (cheap : (ws : List ℕ) (n : ℕ) → 1 ≤ n �
 
     weight_close : (i s : ℕ) (g : Gathered) → weight (close i s g) ≤ 2 + weight g
     unfolding weight close size own_total
-    weight_close i s g = omega (arith, total_group (in_set false t) (some i) s (g.edge - s) g.loose g.groups)
+    weight_close i s g = omega (arith, total_group (in_set false t) (Some i) s (g.edge - s) g.loose g.groups)
 
     weight_pass : (b i e : ℕ) (g : Gathered) → weight (pass b i e g) ≤ 2 + weight g
     unfolding pass
@@ -48,7 +48,7 @@ module _ (c : List ℕ → ℕ) (cheap : (ws : List ℕ) (n : ℕ) → 1 ≤ n �
       where
         go : (x : Bool) → size c (elim x as (λ y. Gathered) [ true ↦ g | false ↦ close i s g ]).groups + total (in_set false t) (elim x as (λ y. Gathered) [ true ↦ g | false ↦ close i s g ]).groups ≤ 2 + weight g
         go true = omega arith
-        go false = omega (arith, total_group (in_set false t) (some i) s (g.edge - s) g.loose g.groups)
+        go false = omega (arith, total_group (in_set false t) (Some i) s (g.edge - s) g.loose g.groups)
 
     -- a child in front
     weight_gather : (f : Trees → Trees) (g : Gathered) (n : ℕ) → ((ts : Trees) → size c (f ts) + own_total (in_set false t) (f ts) ≤ n + (size c ts + own_total (in_set false t) ts))
@@ -57,7 +57,7 @@ module _ (c : List ℕ → ℕ) (cheap : (ws : List ℕ) (n : ℕ) → 1 ≤ n �
     weight_gather f g n h = omega (arith, h g.loose)
 
   -- a finished tree
-  size_plain : (t : Option ℕ) (i s l : ℕ) (g : Gathered) → size c (tree (some i) s l (g.loose ⊕ g.groups) nil) ≤ 2 + weight t g
+  size_plain : (t : Option ℕ) (i s l : ℕ) (g : Gathered) → size c (tree (Some i) s l (g.loose ⊕ g.groups) nil) ≤ 2 + weight t g
   unfolding size weight
   size_plain t i s l g = omega (arith, size-⊕ c g.loose g.groups)
 
@@ -66,12 +66,12 @@ module _ (c : List ℕ → ℕ) (cheap : (ws : List ℕ) (n : ℕ) → 1 ≤ n �
   size_finish F i s e g = go (ltb i F) (is_nil g.groups) refl
     where
       go : (x y : Bool) → is_nil g.groups ≡ y
-          → size c (elim (x || y) [ true ↦ tree (some i) s (e - s) (g.loose ⊕ g.groups) nil | false ↦ balance (in_set false (some i)) (in_set false (some i)) s (e - s) (rest_closed i s g).groups ])
-          ≤ 2 + weight (elim x [ true ↦ none | false ↦ some i ]) g
-      go true y q = size_plain none i s (e - s) g
-      go false true q = size_plain (some i) i s (e - s) g
+          → size c (elim (x || y) [ true ↦ tree (Some i) s (e - s) (g.loose ⊕ g.groups) nil | false ↦ balance (in_set false (Some i)) (in_set false (Some i)) s (e - s) (rest_closed i s g).groups ])
+          ≤ 2 + weight (elim x [ true ↦ None | false ↦ Some i ]) g
+      go true y q = size_plain None i s (e - s) g
+      go false true q = size_plain (Some i) i s (e - s) g
       go false false q =
-          omega (arith, weight_rest_closed (some i) i s g, size_balance c (in_set false (some i)) s (e - s) (rest_closed i s g).groups (total_rest_closed (in_set false (some i)) i s g q))
+          omega (arith, weight_rest_closed (Some i) i s g, size_balance c (in_set false (Some i)) s (e - s) (rest_closed i s g).groups (total_rest_closed (in_set false (Some i)) i s g q))
 
   module _ (t : Option ℕ) where
     one_leaf : (u : Option ℕ) (s l : ℕ) → total (in_set false t) (tree u s l nil nil) ≤ 1
@@ -102,9 +102,9 @@ module _ (c : List ℕ → ℕ) (cheap : (ws : List ℕ) (n : ℕ) → 1 ≤ n �
         ws : List ℕ
         ws = flat_words s 0 (rec i s e n ∷ [])
 
-        go : (x : Bool) → size c (elim x [ true ↦ tree (some i) s (e - s) nil ts | false ↦ part s (e - s) ws ts ])
-            + own_total (in_set false t) (elim x [ true ↦ tree (some i) s (e - s) nil ts | false ↦ part s (e - s) ws ts ]) ≤ 2 * 1 + (size c ts + own_total (in_set false t) ts)
-        go true = leaf_weight (some i) s (e - s) ts
+        go : (x : Bool) → size c (elim x [ true ↦ tree (Some i) s (e - s) nil ts | false ↦ part s (e - s) ws ts ])
+            + own_total (in_set false t) (elim x [ true ↦ tree (Some i) s (e - s) nil ts | false ↦ part s (e - s) ws ts ]) ≤ 2 * 1 + (size c ts + own_total (in_set false t) ts)
+        go true = leaf_weight (Some i) s (e - s) ts
         go false = omega (arith, part_weight s (e - s) ws 1 ts (omega arith) (omega (arith, length_flat_words s 0 (rec i s e n ∷ []))))
     flat_weight (rec i s e n ∷ r ∷ rs) ts =
         let all = rec i s e n ∷ r ∷ rs in
@@ -182,27 +182,27 @@ module _ (c : List ℕ → ℕ) (cheap : (ws : List ℕ) (n : ℕ) → 1 ≤ n �
             → ((k : ℕ) (g' : Gathered) → weight own (walk F b rest d k own g') ≤ 2 * records (after k rest) + weight own g')
             → weight (repeats F i) (inner (too_deep d)) ≤ 2 * records kids
             → weight own (elim q [
-              | some k ↦ walk F b rest d k own (gather (run_part F i s e kids (first k rest)) g)
-              | none ↦ walk F b rest d zero own (gather (λ ts. finish F i s e (inner (too_deep d)) ⊕ ts) g)
+              | Some k ↦ walk F b rest d k own (gather (run_part F i s e kids (first k rest)) g)
+              | None ↦ walk F b rest d zero own (gather (λ ts. finish F i s e (inner (too_deep d)) ⊕ ts) g)
             ]) ≤ 2 * suc (records kids + records rest) + weight own g
-        go (some k) ih u =
+        go (Some k) ih u =
             let more = first k rest in
             let n = suc (records kids + records more) in
             omega (arith, ih k (gather (run_part F i s e kids more) g), records_split k rest, weight_gather own (run_part F i s e kids more) g n (run_weight own i s e kids more))
-        go none ih u =
+        go None ih u =
             omega (arith, ih zero (gather (λ ts. finish F i s e (inner (too_deep d)) ⊕ ts) g), weight_tree own i s e (inner (too_deep d)) g o.0)
 
   -- the cells of a build: at most two for each record, and the top
   few_sized : (F b S top : ℕ) (given : Option ℕ) (f : Forest) → size c (build F b S top given f) ≤ 2 * count f + 1
   unfolding build first_level size weight after records
   few_sized F b S top given f =
-      let its = items F none f Items.nil in
-      let g = walk F b its 0 0 none (fresh (behind S f)) in
+      let its = items F None f Items.nil in
+      let g = walk F b its 0 0 None (fresh (behind S f)) in
       omega (
         arith,
-        weight_walk F b its 0 0 none (fresh (behind S f)) (owned_items F none f Items.nil tt),
-        weight_fresh none (behind S f),
-        records_items F none f Items.nil,
+        weight_walk F b its 0 0 None (fresh (behind S f)) (owned_items F None f Items.nil tt),
+        weight_fresh None (behind S f),
+        records_items F None f Items.nil,
         size-⊕ c g.loose g.groups,
       )
 

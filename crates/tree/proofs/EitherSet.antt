@@ -3,7 +3,8 @@
 use mathlib.Core.Path.{◌≡◌, refl, ap, ◌∙◌}
 use mathlib.Core.Bool.{Bool, true, false, ◌&&◌, ◌||◌, not}
 use mathlib.Core.List.{List, [], ◌∷◌}
-use mathlib.Core.Option.{Option, none, some, get_or}
+use Rattle.std.specs.Prelude.{Option, None, Some}
+use Rattle.std.specs.Option.{unwrap_or}
 use Prim.Native.Nat.{ℕ, zero, suc, ◌+◌, ◌-◌}
 use lib.Dec.{ltb, leb}
 use Rattle.records.specs.Forest.{Forest, behind}
@@ -20,8 +21,8 @@ use Rattle.tree.proofs.BalanceEither.{nones, Free, free_nil, free-⊕, free_tree
 unfoldable pub finish_on : (none_first : Bool) (F i s e : ℕ) → Gathered → Trees
 finish_on none_first F i s e g =
     elim (ltb i F || is_nil g.groups) [
-      | true ↦ tree (some i) s (e - s) (g.loose ⊕ g.groups) nil
-      | false ↦ balance (in_set none_first (some i)) (in_set none_first (some i)) s (e - s) (rest_closed i s g).groups
+      | true ↦ tree (Some i) s (e - s) (g.loose ⊕ g.groups) nil
+      | false ↦ balance (in_set none_first (Some i)) (in_set none_first (Some i)) s (e - s) (rest_closed i s g).groups
     ]
 
 module _ (none_first : Bool) (F b : ℕ) where
@@ -32,8 +33,8 @@ module _ (none_first : Bool) (F b : ℕ) where
   walk_on (mark i s e n rest) d (suc k) own g = walk_on rest d k own g
   walk_on (span i s e kids rest) d zero own g =
       elim (run_from F b own i s e kids rest) [
-        | some k ↦ walk_on rest d k own (gather (run_part F i s e kids (first k rest)) g)
-        | none ↦
+        | Some k ↦ walk_on rest d k own (gather (run_part F i s e kids (first k rest)) g)
+        | None ↦
             let inner : Gathered = elim (too_deep d) [
               | true ↦ flat b (repeats F i) (flattened kids []) false [] 0 (fresh e)
               | false ↦ walk_on kids (suc d) zero (repeats F i) (fresh e)
@@ -44,13 +45,13 @@ module _ (none_first : Bool) (F b : ℕ) where
 
   -- the first-level trees of a list, as `first_level` of specs/Build
   unfoldable pub first_level_on : (S : ℕ) → Forest → Trees
-  first_level_on S f = let g = walk_on (items F none f Items.nil) 0 0 none (fresh (behind S f)) in g.loose ⊕ g.groups
+  first_level_on S f = let g = walk_on (items F None f Items.nil) 0 0 None (fresh (behind S f)) in g.loose ⊕ g.groups
 
 -- the whole tree, as `build` of specs/Build
 unfoldable pub build_on : (none_first : Bool) (F b S top : ℕ) (given : Option ℕ) → Forest → Trees
 build_on none_first F b S top given f =
     let kids = first_level_on none_first F b S f in
-    tree (some top) S (get_or given (last_end S kids - S)) kids nil
+    tree (Some top) S (unwrap_or given (last_end S kids - S)) kids nil
 
 -- what is gathered has no tree of kind 3
 record Frees (g : Gathered) : Type 0 where
@@ -91,7 +92,7 @@ free_finish : (F i s e : ℕ) (g : Gathered) → Frees g → Free (finish F i s 
 unfolding finish
 free_finish F i s e g w = go (ltb i F || is_nil g.groups)
   where
-    go : (x : Bool) → Free (elim x [ true ↦ tree (some i) s (e - s) (g.loose ⊕ g.groups) nil | false ↦ balance (in_set false (some i)) (in_set false (some i)) s (e - s) (rest_closed i s g).groups ])
+    go : (x : Bool) → Free (elim x [ true ↦ tree (Some i) s (e - s) (g.loose ⊕ g.groups) nil | false ↦ balance (in_set false (Some i)) (in_set false (Some i)) s (e - s) (rest_closed i s g).groups ])
     go true = free_tree i s (e - s) (g.loose ⊕ g.groups) nil (free-⊕ g.loose g.groups w.loose w.groups) free_nil
     go false = free_balance i s (e - s) (rest_closed i s g).groups (frees_rest_closed i s g w).groups
 
@@ -103,8 +104,8 @@ finish_either none_first F i s e g w = go (ltb i F || is_nil g.groups)
     all = (rest_closed i s g).groups
 
     go : (x : Bool)
-        → ◌≡◌ {A = Trees} (elim x [ true ↦ tree (some i) s (e - s) (g.loose ⊕ g.groups) nil | false ↦ balance (in_set none_first (some i)) (in_set none_first (some i)) s (e - s) all ])
-        (elim x [ true ↦ tree (some i) s (e - s) (g.loose ⊕ g.groups) nil | false ↦ balance (in_set false (some i)) (in_set false (some i)) s (e - s) all ])
+        → ◌≡◌ {A = Trees} (elim x [ true ↦ tree (Some i) s (e - s) (g.loose ⊕ g.groups) nil | false ↦ balance (in_set none_first (Some i)) (in_set none_first (Some i)) s (e - s) all ])
+        (elim x [ true ↦ tree (Some i) s (e - s) (g.loose ⊕ g.groups) nil | false ↦ balance (in_set false (Some i)) (in_set false (Some i)) s (e - s) all ])
     go true = refl
     go false = balance_either none_first i s (e - s) all (frees_rest_closed i s g w).groups
 
@@ -117,7 +118,7 @@ free_flat_part (rec i s e n ∷ []) ts h = go (ltb 65535 (e - s))
     ws : List ℕ
     ws = flat_words s 0 (rec i s e n ∷ [])
 
-    go : (x : Bool) → Free (elim x [ true ↦ tree (some i) s (e - s) nil ts | false ↦ part s (e - s) ws ts ])
+    go : (x : Bool) → Free (elim x [ true ↦ tree (Some i) s (e - s) nil ts | false ↦ part s (e - s) ws ts ])
     go true = free_tree i s (e - s) nil ts free_nil h
     go false = free_part s (e - s) ws ts h
 free_flat_part (rec i s e n ∷ r ∷ rs) ts h = free_part _ _ _ ts h
@@ -177,11 +178,11 @@ module _ (F b : ℕ) where
 
       go : (q : Option ℕ) → ((k : ℕ) (g' : Gathered) → Frees g' → Frees (walk F b rest d k own g')) → Frees (inner (too_deep d))
           → Frees (elim q [
-            | some k ↦ walk F b rest d k own (gather (run_part F i s e kids (first k rest)) g)
-            | none ↦ walk F b rest d zero own (gather (λ ts. finish F i s e (inner (too_deep d)) ⊕ ts) g)
+            | Some k ↦ walk F b rest d k own (gather (run_part F i s e kids (first k rest)) g)
+            | None ↦ walk F b rest d zero own (gather (λ ts. finish F i s e (inner (too_deep d)) ⊕ ts) g)
           ])
-      go (some k) ih v = ih k _ (frees_gather (run_part F i s e kids (first k rest)) g (free_run i s e kids (first k rest)) w)
-      go none ih v = ih zero _ (frees_tree i s e (inner (too_deep d)) g v w)
+      go (Some k) ih v = ih k _ (frees_gather (run_part F i s e kids (first k rest)) g (free_run i s e kids (first k rest)) w)
+      go None ih v = ih zero _ (frees_tree i s e (inner (too_deep d)) g v w)
 
   walk_either : (none_first : Bool) (its : Items) (d k : ℕ) (own : Option ℕ) (g : Gathered) → Frees g → walk_on none_first F b its d k own g ≡ walk F b its d k own g
   unfolding walk_on walk
@@ -210,14 +211,14 @@ module _ (F b : ℕ) where
       go : (q : Option ℕ) → ((k : ℕ) (g' : Gathered) → Frees g' → walk_on none_first F b rest d k own g' ≡ walk F b rest d k own g')
           → (inner_on (too_deep d) ≡ inner (too_deep d)) × Frees (inner (too_deep d))
           → ◌≡◌ {A = Gathered} (elim q [
-            | some k ↦ walk_on none_first F b rest d k own (gather (run_part F i s e kids (first k rest)) g)
-            | none ↦ walk_on none_first F b rest d zero own (gather (λ ts. finish_on none_first F i s e (inner_on (too_deep d)) ⊕ ts) g)
+            | Some k ↦ walk_on none_first F b rest d k own (gather (run_part F i s e kids (first k rest)) g)
+            | None ↦ walk_on none_first F b rest d zero own (gather (λ ts. finish_on none_first F i s e (inner_on (too_deep d)) ⊕ ts) g)
           ]) (elim q [
-            | some k ↦ walk F b rest d k own (gather (run_part F i s e kids (first k rest)) g)
-            | none ↦ walk F b rest d zero own (gather (λ ts. finish F i s e (inner (too_deep d)) ⊕ ts) g)
+            | Some k ↦ walk F b rest d k own (gather (run_part F i s e kids (first k rest)) g)
+            | None ↦ walk F b rest d zero own (gather (λ ts. finish F i s e (inner (too_deep d)) ⊕ ts) g)
           ])
-      go (some k) ih v = ih k _ (frees_gather (run_part F i s e kids (first k rest)) g (free_run i s e kids (first k rest)) w)
-      go none ih v =
+      go (Some k) ih v = ih k _ (frees_gather (run_part F i s e kids (first k rest)) g (free_run i s e kids (first k rest)) w)
+      go None ih v =
           let made : finish_on none_first F i s e (inner_on (too_deep d)) ≡ finish F i s e (inner (too_deep d)) =
           ap (finish_on none_first F i s e) v.0 ∙ finish_either none_first F i s e (inner (too_deep d)) v.1 in
           ap (λ (t : Trees). walk_on none_first F b rest d zero own (gather (λ ts. t ⊕ ts) g)) made
@@ -226,12 +227,12 @@ module _ (F b : ℕ) where
   first_level_either : (none_first : Bool) (S : ℕ) (f : Forest) → first_level_on none_first F b S f ≡ first_level F b S f
   unfolding first_level_on first_level
   first_level_either none_first S f =
-      ap (λ (g : Gathered). g.loose ⊕ g.groups) (walk_either none_first (items F none f Items.nil) 0 0 none (fresh (behind S f)) (frees_fresh (behind S f)))
+      ap (λ (g : Gathered). g.loose ⊕ g.groups) (walk_either none_first (items F None f Items.nil) 0 0 None (fresh (behind S f)) (frees_fresh (behind S f)))
 
   free_first_level : (S : ℕ) (f : Forest) → Free (first_level F b S f)
   unfolding first_level
   free_first_level S f =
-      let w = frees_walk (items F none f Items.nil) 0 0 none (fresh (behind S f)) (frees_fresh (behind S f)) in
+      let w = frees_walk (items F None f Items.nil) 0 0 None (fresh (behind S f)) (frees_fresh (behind S f)) in
       free-⊕ _ _ w.loose w.groups
 
 -- no tree of a build is of kind 3
@@ -243,4 +244,4 @@ build_no_none F b S top given f = free_tree top S _ (first_level F b S f) nil (f
 pub either_set : (none_first : Bool) (F b S top : ℕ) (given : Option ℕ) (f : Forest) → build_on none_first F b S top given f ≡ build F b S top given f
 unfolding build_on build
 either_set none_first F b S top given f =
-    ap (λ (kids : Trees). tree (some top) S (get_or given (last_end S kids - S)) kids nil) (first_level_either F b none_first S f)
+    ap (λ (kids : Trees). tree (Some top) S (unwrap_or given (last_end S kids - S)) kids nil) (first_level_either F b none_first S f)

@@ -3,7 +3,7 @@
 use mathlib.Core.Path.{◌≡◌, refl, subst, ◌∙◌}
 use mathlib.Core.Bool.{Bool, true, false, ◌&&◌, not}
 use mathlib.Core.List.{List, [], ◌∷◌, ◌++◌, append_assoc, append-nil}
-use mathlib.Core.Option.{Option, some}
+use Rattle.std.specs.Prelude.{Option, Some}
 use Prim.Native.Nat.{ℕ, ◌+◌, ◌-◌, ◌/◌, ◌≤◌, ◌<◌}
 use native.Mathlib.Omega.{arith}
 use native.Mathlib.Nat.{le_refl}
@@ -90,11 +90,11 @@ module _ (F d : ℕ) where
   view_flat_part T lo hi [] ts h = refl
   view_flat_part T lo hi (rec i s e n ∷ []) ts h = go (ltb 65535 (e - s))
     where
-      go : (x : Bool) → view F d (elim x [ true ↦ tree (some i) s (e - s) nil ts | false ↦ part s (e - s) (flat_words s 0 (rec i s e n ∷ [])) ts ])
+      go : (x : Bool) → view F d (elim x [ true ↦ tree (Some i) s (e - s) nil ts | false ↦ part s (e - s) (flat_words s 0 (rec i s e n ∷ [])) ts ])
           ≡ held_lines (rec i s e n ∷ []) ++ view F d ts
       go true =
           let end : s + (e - s) ≡ e = omega arith in
-          rw (view_tree F d (some i) s (e - s) nil ts, end, view_nil)
+          rw (view_tree F d (Some i) s (e - s) nil ts, end, view_nil)
       go false =
           rw (
             view_part F d s (e - s) (flat_words s 0 (rec i s e n ∷ [])) ts,

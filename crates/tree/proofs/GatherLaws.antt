@@ -3,7 +3,7 @@
 use mathlib.Core.Path.{◌≡◌, refl, sym, subst}
 use mathlib.Core.Bool.{Bool, true, false, ◌||◌}
 use mathlib.Core.List.{List, [], ◌++◌, append_assoc, append-nil}
-use mathlib.Core.Option.{some}
+use Rattle.std.specs.Prelude.{Some}
 use Prim.Native.Nat.{ℕ, ◌+◌, ◌-◌, ◌≤◌}
 use native.Mathlib.Omega.{arith}
 use lib.Dec.{T, ltb, leb}
@@ -33,7 +33,7 @@ gview_gather F d f g ls h = rw (h g.loose) (append_assoc ls _ _)
 module _ (F d : ℕ) where
   gview_close : (i s : ℕ) (g : Gathered) → ltb i F ≡ false → gview F d (close i s g) ≡ gview F d g
   unfolding gview close
-  gview_close i s g h = rw (view_nil, view_hidden F d (some i) s (g.edge - s) g.loose g.groups h)
+  gview_close i s g h = rw (view_nil, view_hidden F d (Some i) s (g.edge - s) g.loose g.groups h)
 
   pub gview_pass : (b i e : ℕ) (g : Gathered) → ltb i F ≡ false → gview F d (pass b i e g) ≡ gview F d g
   unfolding pass
@@ -55,21 +55,21 @@ module _ (F d : ℕ) where
     where
       go : (x : Bool) → is_nil g.loose ≡ x → view F d (elim x as (λ y. Gathered) [ true ↦ g | false ↦ close i s g ]).groups ≡ gview F d g
       go true e = rw (view_is_nil g.loose e)
-      go false e = view_hidden F d (some i) s (g.edge - s) g.loose g.groups h
+      go false e = view_hidden F d (Some i) s (g.edge - s) g.loose g.groups h
 
   pub view_finish : (i s e : ℕ) (g : Gathered) → s ≤ e → view F d (finish F i s e g) ≡ line F d i s e ++ gview F (depth_below F d i) g
   unfolding finish gview node_line node_below
   view_finish i s e g h = go (ltb i F) (is_nil g.groups) refl
     where
-      plain : view F d (tree (some i) s (e - s) (g.loose ⊕ g.groups) nil) ≡ line F d i s e ++ gview F (depth_below F d i) g
+      plain : view F d (tree (Some i) s (e - s) (g.loose ⊕ g.groups) nil) ≡ line F d i s e ++ gview F (depth_below F d i) g
       plain =
           let end : s + (e - s) ≡ e = omega arith in
-          rw (view_tree F d (some i) s (e - s) (g.loose ⊕ g.groups) nil, end, view-⊕, view_nil) (append-nil _)
+          rw (view_tree F d (Some i) s (e - s) (g.loose ⊕ g.groups) nil, end, view-⊕, view_nil) (append-nil _)
 
       go : (x y : Bool) → ltb i F ≡ x
-          → view F d (elim (x || y) [ true ↦ tree (some i) s (e - s) (g.loose ⊕ g.groups) nil | false ↦ balance (in_set false (some i)) (in_set false (some i)) s (e - s) (rest_closed i s g).groups ])
+          → view F d (elim (x || y) [ true ↦ tree (Some i) s (e - s) (g.loose ⊕ g.groups) nil | false ↦ balance (in_set false (Some i)) (in_set false (Some i)) s (e - s) (rest_closed i s g).groups ])
           ≡ line F d i s e ++ gview F (depth_below F d i) g
       go true y x = plain
       go false true x = plain
       go false false x =
-          rw (line_repeat F d i s e x, below_repeat F d i x, view_balance F d (some i) x s (e - s) (rest_closed i s g).groups) (view_rest_closed i s g x)
+          rw (line_repeat F d i s e x, below_repeat F d i x, view_balance F d (Some i) x s (e - s) (rest_closed i s g).groups) (view_rest_closed i s g x)

@@ -3,7 +3,7 @@
 use mathlib.Core.Path.{◌≡◌, refl, sym, subst, ◌∙◌}
 use mathlib.Core.Bool.{Bool, true, false, true≢false}
 use mathlib.Core.List.{List, [], ◌++◌, append_assoc, append-nil}
-use mathlib.Core.Option.{Option, none, some}
+use Rattle.std.specs.Prelude.{Option, None, Some}
 use Prim.Native.Nat.{ℕ, zero, suc, ◌*◌, ◌≤◌, max}
 use native.Mathlib.Omega.{arith}
 use native.Mathlib.Nat.{le_refl}
@@ -131,7 +131,7 @@ module _ (F T : ℕ) where
       go false x earlier inner = rw (floor_big (4 * suc (records kids)) s e x) inner
 
 -- the repeat id that children stand under
-pub own_none : (F : ℕ) → Own F none
+pub own_none : (F : ℕ) → Own F None
 unfolding same
 own_none F j h = absurd (true≢false (sym h))
 
@@ -139,7 +139,7 @@ pub own_repeats : (F i : ℕ) → Own F (repeats F i)
 unfolding repeats same
 own_repeats F i = go (ltb i F) refl
   where
-    go : (x : Bool) → ltb i F ≡ x → Own F (elim x [ true ↦ none | false ↦ some i ])
+    go : (x : Bool) → ltb i F ≡ x → Own F (elim x [ true ↦ None | false ↦ Some i ])
     go true e = own_none F
     go false e = λ j h. rw (eqb→eq i j (subst So (sym h) tt)) at e
 

@@ -3,7 +3,8 @@
 -- tree's lines. Assumes nothing.
 use mathlib.Core.Path.{◌≡◌, refl, sym, ap, ap₂, subst, ◌∙◌}
 use mathlib.Core.List.{List, [], append-nil}
-use mathlib.Core.Option.{Option, some, get_or}
+use Rattle.std.specs.Prelude.{Option, Some}
+use Rattle.std.specs.Option.{unwrap_or}
 use lib.ListN.{length}
 use Prim.Native.Nat.{ℕ, suc, ◌+◌, ◌-◌, ◌*◌, ◌≤◌, ◌<◌}
 use native.Mathlib.Omega.{arith}
@@ -32,7 +33,7 @@ pub record Kept (T hi : ℕ) (cs ws : List ℕ) : Type 0 where
   pub kids : Trees
   pub known : top < T
   pub sound : Sound T 0 hi kids
-  pub cells_are : cs ≡ cells 1 0 (relative 0 (tree (some top) 0 length kids nil))
+  pub cells_are : cs ≡ cells 1 0 (relative 0 (tree (Some top) 0 length kids nil))
   pub words_are : ws ≡ packed kids
 
 module _ (T : ℕ) where
@@ -114,7 +115,7 @@ relative_absolute q (part s l ws rest) =
 -- What is read back from cells and words that keep the rules.
 module _ (T hi : ℕ) (cs ws : List ℕ) (k : Kept T hi cs ws) where
   abbrev t : Trees
-  t = tree (some k.top) 0 k.length k.kids nil
+  t = tree (Some k.top) 0 k.length k.kids nil
 
   pub kept_decode : decode ws cs ≡ relative 0 t
   unfolding packed
@@ -125,7 +126,7 @@ module _ (T hi : ℕ) (cs ws : List ℕ) (k : Kept T hi cs ws) where
   pub kept_read : absolute 0 (decode ws cs) ≡ t
   kept_read =
       ap (absolute 0) kept_decode
-      ∙ absolute_relative_top T (Parts T) 0 0 hi (some k.top) 0 k.length k.kids (omega arith) (rw shift_zero k.sound)
+      ∙ absolute_relative_top T (Parts T) 0 0 hi (Some k.top) 0 k.length k.kids (omega arith) (rw shift_zero k.sound)
 
   -- materialise writes a tree that keeps the rules and has no parts
   pub materialise_keeps : T ≤ 65536 → Kept T hi (materialise_cells cs ws) []
@@ -143,9 +144,9 @@ module _ (T hi : ℕ) (cs ws : List ℕ) (k : Kept T hi cs ws) where
       }
 
 -- cells and packed words, read back with S added
-pub kept_from : (T hi S : ℕ) (cs ws : List ℕ) (k : Kept T hi cs ws) → absolute S (decode ws cs) ≡ shift S (tree (some k.top) 0 k.length k.kids nil)
+pub kept_from : (T hi S : ℕ) (cs ws : List ℕ) (k : Kept T hi cs ws) → absolute S (decode ws cs) ≡ shift S (tree (Some k.top) 0 k.length k.kids nil)
 kept_from T hi S cs ws k =
-    let u = tree (some k.top) 0 k.length k.kids nil in
+    let u = tree (Some k.top) 0 k.length k.kids nil in
     ap (absolute S) (kept_decode T hi cs ws k)
     ∙ (ap (λ q. absolute q (relative 0 u)) (sym (add-zero S))
     ∙ (absolute_shift S 0 (relative 0 u) ∙ ap (shift S) (ap (absolute 0) (sym (kept_decode T hi cs ws k)) ∙ kept_read T hi cs ws k)))
@@ -168,7 +169,7 @@ module _ (T hi F S : ℕ) where
 -- how many cells materialise writes of cells that keep the rules
 kept_size : (T hi : ℕ) (cs ws : List ℕ) (k : Kept T hi cs ws) → length (materialise_cells cs ws) ≡ cell_width * suc (nodes (materialise k.kids) + 0)
 unfolding materialise_cells materialise nodes
-kept_size T hi cs ws k = ap (λ (u : Trees). length (tree_cells 0 (materialise u))) (kept_read T hi cs ws k) ∙ length_tree_cells 0 (tree (some k.top) 0 k.length (materialise k.kids) nil)
+kept_size T hi cs ws k = ap (λ (u : Trees). length (tree_cells 0 (materialise u))) (kept_read T hi cs ws k) ∙ length_tree_cells 0 (tree (Some k.top) 0 k.length (materialise k.kids) nil)
 
 -- Children that stand from S on, as they are read back from cells: counted from 0.
 module _ (T S hi : ℕ) (kids : Trees) (sound : Sound T S hi kids) where
@@ -188,7 +189,7 @@ module _ (T S hi : ℕ) (kids : Trees) (sound : Sound T S hi kids) where
       sound_down T S 0 (hi - S) counted (subst (λ s. Sound T s (S + (hi - S)) (shift S counted)) a (subst (λ e. Sound T S e (shift S counted)) b (subst (Sound T S hi) (sym counted_up) sound)))
 
   -- the cells and words written of a tree over them
-  pub kept_written : (top l : ℕ) → top < T → Kept T (hi - S) (tree_cells S (tree (some top) S l kids nil)) (packed kids)
+  pub kept_written : (top l : ℕ) → top < T → Kept T (hi - S) (tree_cells S (tree (Some top) S l kids nil)) (packed kids)
   unfolding tree_cells relative counted
   kept_written top l known =
       let none_left : S - S ≡ 0 = omega arith in
@@ -226,7 +227,7 @@ module _ (T F b S top : ℕ) (given : Option ℕ) (list : List ℕ) (fits : S �
   build_kept =
       let kids = first_level F b S f in
       subst (Kept T (behind S f - S) _) (sym (append-nil (packed kids)))
-      (kept_written T S (behind S f) kids built_sound top (get_or given (last_end S kids - S)) a.top_known)
+      (kept_written T S (behind S f) kids built_sound top (unwrap_or given (last_end S kids - S)) a.top_known)
 
   pub materialise_kept : Kept T (behind S f - S) (materialise_cells (build_cells F b S top given f).cells (build_cells F b S top given f).words) []
   materialise_kept = materialise_keeps T (behind S f - S) (build_cells F b S top given f).cells (build_cells F b S top given f).words build_kept a.types
@@ -237,7 +238,7 @@ module _ (T F b S top : ℕ) (given : Option ℕ) (list : List ℕ) (fits : S �
   cells_give_lines =
       let kids = first_level F b S f in
       let t = build F b S top given f in
-      let k = kept_written T S (behind S f) kids built_sound top (get_or given (last_end S kids - S)) a.top_known in
+      let k = kept_written T S (behind S f) kids built_sound top (unwrap_or given (last_end S kids - S)) a.top_known in
       ap (λ (w : List ℕ). list_cells F S (tree_cells S t) w) (append-nil (packed kids))
       ∙ (kept_listed T (behind S f - S) F S (tree_cells S t) (packed kids) k ∙ ap (view F 0) (counted_up T S (behind S f) kids built_sound))
 
@@ -251,7 +252,7 @@ module _ (T F b S top : ℕ) (given : Option ℕ) (list : List ℕ) (fits : S �
   materialised_size =
       let kids = first_level F b S f in
       let t = build F b S top given f in
-      let k = kept_written T S (behind S f) kids built_sound top (get_or given (last_end S kids - S)) a.top_known in
+      let k = kept_written T S (behind S f) kids built_sound top (unwrap_or given (last_end S kids - S)) a.top_known in
       let here = counted T S (behind S f) kids built_sound in
       let same : nodes (materialise here) ≡ nodes (materialise kids) =
       sym (nodes_shift S (materialise here)) ∙ (ap nodes (sym (materialise_shift S here)) ∙ ap (λ (u : Trees). nodes (materialise u)) (counted_up T S (behind S f) kids built_sound)) in

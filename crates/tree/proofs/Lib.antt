@@ -35,4 +35,3 @@ pub mod BalanceLists
 pub mod BalanceEither
 pub mod EitherSet
 pub mod RunLaws
-pub mod Stores

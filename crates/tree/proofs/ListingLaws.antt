@@ -1,7 +1,7 @@
 -- Listing and materialising siblings one after the other. By induction on the trees. Assumes nothing.
 use mathlib.Core.Path.{◌≡◌, refl, sym, ap, ◌∙◌}
 use mathlib.Core.List.{List, [], ◌++◌, append_assoc}
-use mathlib.Core.Option.{Option}
+use Rattle.std.specs.Prelude.{Option}
 use Prim.Native.Nat.{ℕ, ◌+◌}
 use Rattle.tree.specs.Trees.{Trees, nil, tree, part, ◌⊕◌}
 use Rattle.tree.specs.Materialise.{unpack, materialise}

@@ -4,7 +4,7 @@
 use mathlib.Core.Path.{◌≡◌, refl, sym, ap, ap₂, ◌∙◌}
 use mathlib.Core.Bool.{Bool, true, false, cond}
 use mathlib.Core.List.{List, [], ◌∷◌, ◌++◌, append_assoc, append-nil}
-use mathlib.Core.Option.{none, some}
+use Rattle.std.specs.Prelude.{None, Some}
 use Prim.Native.Nat.{ℕ, zero, suc, ◌+◌, ◌-◌, ◌*◌, ◌/◌, ◌≤◌, ◌<◌}
 use native.Mathlib.Omega.{arith}
 use native.Mathlib.Nat.{add-zero, le_refl}
@@ -63,24 +63,24 @@ open_past off n (e ∷ es) h a = rw (lt-leb e off (omega (arith, a.0)), open_end
 -- trees as parts hold them: no parts, each with an id
 abbrev pub Typed : Trees → Type 0
 Typed nil = Unit {0}
-Typed (tree none s l kids rest) = ⊥
-Typed (tree (some i) s l kids rest) = Typed kids × Typed rest
+Typed (tree None s l kids rest) = ⊥
+Typed (tree (Some i) s l kids rest) = Typed kids × Typed rest
 Typed (part s l ws rest) = ⊥
 
 pub typed_within : (ts : Trees) (n : ℕ) → Typed ts → Typed (within ts n)
 unfolding within
 typed_within nil n a = tt
-typed_within (tree none s l kids rest) n a = absurd a
-typed_within (tree (some i) s l kids rest) zero a = tt
-typed_within (tree (some i) s l kids rest) (suc n) a = (a.0, typed_within rest (n - nodes kids) a.1)
+typed_within (tree None s l kids rest) n a = absurd a
+typed_within (tree (Some i) s l kids rest) zero a = tt
+typed_within (tree (Some i) s l kids rest) (suc n) a = (a.0, typed_within rest (n - nodes kids) a.1)
 typed_within (part s l ws rest) n a = absurd a
 
 typed_beyond : (ts : Trees) (n : ℕ) → Typed ts → Typed (beyond ts n)
 unfolding beyond
 typed_beyond nil n a = tt
-typed_beyond (tree none s l kids rest) n a = absurd a
-typed_beyond (tree (some i) s l kids rest) zero a = a
-typed_beyond (tree (some i) s l kids rest) (suc n) a = typed_beyond rest (n - nodes kids) a.1
+typed_beyond (tree None s l kids rest) n a = absurd a
+typed_beyond (tree (Some i) s l kids rest) zero a = a
+typed_beyond (tree (Some i) s l kids rest) (suc n) a = typed_beyond rest (n - nodes kids) a.1
 typed_beyond (part s l ws rest) n a = absurd a
 
 pub typed_unpack : (p off : ℕ) (ws : List ℕ) → Typed (unpack p off ws)
@@ -131,9 +131,9 @@ module _ (F p d : ℕ) where
       → part_lines F p d off (gone ++ es) (spelled p off us ++ v) ≡ listing F (d + length es) us ++ part_lines F p d (off + 4 * nodes us) es v
   unfolding spelled listing nodes id_word node_line node_below
   lines_spelled nil off lo hi T gone es v h a w g q = rw add-zero (lines_passed off gone es v g)
-  lines_spelled (tree none s l kids rest) off lo hi T gone es v h a w g q = absurd a
+  lines_spelled (tree None s l kids rest) off lo hi T gone es v h a w g q = absurd a
   lines_spelled (part s l ws rest) off lo hi T gone es v h a w g q = absurd a
-  lines_spelled (tree (some i) s l kids rest) off lo hi T gone es v h a w g q =
+  lines_spelled (tree (Some i) s l kids rest) off lo hi T gone es v h a w g q =
       let D = d + length es in
       let open_now : open_ends off (gone ++ es) ≡ es = open_passed off gone es g ∙ open_past off (off + 4 * suc (nodes kids + nodes rest)) es (omega arith) q in
       let e₁ : p + (s - p) ≡ s = omega (arith, w.starts) in

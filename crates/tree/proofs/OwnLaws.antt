@@ -2,7 +2,7 @@
 -- 2,500 becomes one, since a finished tree has the id of its record. Assumes nothing.
 use mathlib.Core.Path.{◌≡◌, refl, sym, subst, ◌∙◌}
 use mathlib.Core.Bool.{Bool, true, false, ◌&&◌, ◌||◌, true≢false}
-use mathlib.Core.Option.{Option, none, some}
+use Rattle.std.specs.Prelude.{Option, None, Some}
 use Prim.Native.Nat.{ℕ, suc, ◌+◌, ◌-◌, ◌*◌, ◌≤◌}
 use native.Mathlib.Omega.{arith}
 use native.Mathlib.Nat.{le_refl}
@@ -66,21 +66,21 @@ total_rest_closed t i s g h = go (is_nil g.loose)
   where
     go : (x : Bool) → 1 ≤ total t (elim x as (λ y. Gathered) [ true ↦ g | false ↦ close i s g ]).groups
     go true = total_some t g.groups h
-    go false = total_pos_tree t (some i) s (g.edge - s) g.loose g.groups
+    go false = total_pos_tree t (Some i) s (g.edge - s) g.loose g.groups
 
 -- a finished tree has its record's id
-same_some : (own : Option ℕ) (i : ℕ) → equal_types own (some i) ≡ same own i
+same_some : (own : Option ℕ) (i : ℕ) → equal_types own (Some i) ≡ same own i
 unfolding equal_types same
-same_some none i = refl
-same_some (some r) i = refl
+same_some None i = refl
+same_some (Some r) i = refl
 
 -- a type that is not the own one, and one equal to it
-other_type : (own : Option ℕ) (i : ℕ) (u : Option ℕ) → same own i ≡ false → So (equal_types (some i) u) → equal_types own u ≡ false
+other_type : (own : Option ℕ) (i : ℕ) (u : Option ℕ) → same own i ≡ false → So (equal_types (Some i) u) → equal_types own u ≡ false
 unfolding equal_types same
-other_type none i none h e = absurd e
-other_type none i (some j) h e = refl
-other_type (some r) i none h e = refl
-other_type (some r) i (some j) h e = rw (eqb→eq i j e) at h
+other_type None i None h e = absurd e
+other_type None i (Some j) h e = refl
+other_type (Some r) i None h e = refl
+other_type (Some r) i (Some j) h e = rw (eqb→eq i j e) at h
 
 pub own_tree : (own : SetType) (u : Option ℕ) (s l : ℕ) (kids : Trees) → same_type own u ≡ false → own_total own (tree u s l kids nil) ≡ 0
 unfolding own_total
@@ -90,28 +90,28 @@ own_tree own u s l kids h = go (same_type own u) h
     go true h = absurd (true≢false h)
     go false h = refl
 
-own_alone : (own : Option ℕ) (i s l : ℕ) (ts : Trees) → same own i ≡ false → So (is_tree (in_set false (some i)) s l ts) → own_total (in_set false own) ts ≡ 0
+own_alone : (own : Option ℕ) (i s l : ℕ) (ts : Trees) → same own i ≡ false → So (is_tree (in_set false (Some i)) s l ts) → own_total (in_set false own) ts ≡ 0
 unfolding is_tree lone
 own_alone own i s l nil h e = absurd e
-own_alone own i s l (tree u s' l' kids nil) h e = own_tree (in_set false own) u s' l' kids (other_type own i u h (and_left (equal_types (some i) u) (eqb s s' && eqb l l') e))
+own_alone own i s l (tree u s' l' kids nil) h e = own_tree (in_set false own) u s' l' kids (other_type own i u h (and_left (equal_types (Some i) u) (eqb s s' && eqb l l') e))
 own_alone own i s l (tree u s' l' kids (tree u'' s'' l'' kids'' rest)) h e = absurd e
 own_alone own i s l (tree u s' l' kids (part s'' l'' ws rest)) h e = absurd e
 own_alone own i s l (part s' l' ws rest) h e = absurd e
 
-own_joined : (own : Option ℕ) (i s l : ℕ) (kids : Trees) → same own i ≡ false → own_total (in_set false own) (joined (in_set false (some i)) s l kids) ≡ 0
+own_joined : (own : Option ℕ) (i s l : ℕ) (kids : Trees) → same own i ≡ false → own_total (in_set false own) (joined (in_set false (Some i)) s l kids) ≡ 0
 unfolding joined
-own_joined own i s l kids h = go (is_tree (in_set false (some i)) s l kids) refl
+own_joined own i s l kids h = go (is_tree (in_set false (Some i)) s l kids) refl
   where
-    go : (x : Bool) → is_tree (in_set false (some i)) s l kids ≡ x → own_total (in_set false own) (elim x [ true ↦ kids | false ↦ tree (some i) s l kids nil ]) ≡ 0
+    go : (x : Bool) → is_tree (in_set false (Some i)) s l kids ≡ x → own_total (in_set false own) (elim x [ true ↦ kids | false ↦ tree (Some i) s l kids nil ]) ≡ 0
     go true e = own_alone own i s l kids h (subst So (sym e) tt)
-    go false e = own_tree (in_set false own) (some i) s l kids (same_some own i ∙ h)
+    go false e = own_tree (in_set false own) (Some i) s l kids (same_some own i ∙ h)
 
 pub own_finish : (own : Option ℕ) (F i s e : ℕ) (g : Gathered) → same own i ≡ false → own_total (in_set false own) (finish F i s e g) ≡ 0
 unfolding finish balance
 own_finish own F i s e g h = go (ltb i F || is_nil g.groups)
   where
-    go : (x : Bool) → own_total (in_set false own) (elim x [ true ↦ tree (some i) s (e - s) (g.loose ⊕ g.groups) nil | false ↦ balance (in_set false (some i)) (in_set false (some i)) s (e - s) (rest_closed i s g).groups ]) ≡ 0
-    go true = own_tree (in_set false own) (some i) s (e - s) (g.loose ⊕ g.groups) (same_some own i ∙ h)
+    go : (x : Bool) → own_total (in_set false own) (elim x [ true ↦ tree (Some i) s (e - s) (g.loose ⊕ g.groups) nil | false ↦ balance (in_set false (Some i)) (in_set false (Some i)) s (e - s) (rest_closed i s g).groups ]) ≡ 0
+    go true = own_tree (in_set false own) (Some i) s (e - s) (g.loose ⊕ g.groups) (same_some own i ∙ h)
     go false = own_joined own i s (e - s) _ h
 
 -- marks have the parent's own repeat id, and spans have not

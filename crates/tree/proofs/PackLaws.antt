@@ -3,7 +3,7 @@
 use mathlib.Core.Path.{◌≡◌, refl, ap, ◌∙◌}
 use mathlib.Core.Bool.{Bool, true, false}
 use mathlib.Core.List.{List, [], ◌++◌, append_assoc, append-nil}
-use mathlib.Core.Option.{some}
+use Rattle.std.specs.Prelude.{Some}
 use Prim.Native.Nat.{ℕ, ◌+◌, ◌-◌, ◌*◌, ◌/◌}
 use native.Mathlib.Omega.{arith}
 use native.Mathlib.Nat.{add-zero}
@@ -53,7 +53,7 @@ beyond-⊕ (part s l ws rest) us = beyond-⊕ rest us
 
 -- a record over its children's trees; a repeat record is spliced out
 unfoldable pub grown : (F i s l : ℕ) → Trees → Trees
-grown F i s l ts = elim (ltb i F) [ true ↦ tree (some i) s l ts nil | false ↦ ts ]
+grown F i s l ts = elim (ltb i F) [ true ↦ tree (Some i) s l ts nil | false ↦ ts ]
 
 -- the trees that the words of a run spell
 unfoldable pub spliced : (F p : ℕ) → Items → Trees

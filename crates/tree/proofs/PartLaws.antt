@@ -2,7 +2,7 @@
 -- `part` accepts it. So the parts that the build writes are accepted. Assumes nothing.
 use mathlib.Core.Path.{◌≡◌, refl, sym, ap, ◌∙◌}
 use mathlib.Core.List.{List, [], ◌∷◌, ◌++◌, append_assoc, append-nil}
-use mathlib.Core.Option.{none, some}
+use Rattle.std.specs.Prelude.{None, Some}
 use Prim.Native.Nat.{ℕ, suc, ◌+◌, ◌-◌, ◌*◌, ◌%◌, ◌≤◌, ◌<◌}
 use native.Mathlib.Omega.{arith}
 use native.Mathlib.Nat.{add-zero, le_refl}
@@ -20,8 +20,8 @@ use Rattle.tree.specs.Well.{Plain, Parts, spelled}
 length_spelled : (p off : ℕ) (us : Trees) → Typed us → length (spelled p off us) ≡ 4 * nodes us
 unfolding spelled nodes
 length_spelled p off nil a = refl
-length_spelled p off (tree none s l kids rest) a = absurd a
-length_spelled p off (tree (some i) s l kids rest) a =
+length_spelled p off (tree None s l kids rest) a = absurd a
+length_spelled p off (tree (Some i) s l kids rest) a =
     let n = off + 4 + 4 * nodes kids in
     omega (arith, length-append (spelled p (off + 4) kids) (spelled p n rest), length_spelled p (off + 4) kids a.0, length_spelled p n rest a.1)
 length_spelled p off (part s l ws rest) a = absurd a
@@ -61,9 +61,9 @@ module _ (T N : ℕ) where
       → entries_fault T N off (gone ++ es) (spelled p off us ++ v) ≡ entries_fault T N (off + 4 * nodes us) es v
   unfolding spelled nodes id_word
   faults_spelled p nil off lo hi gone es v a w z b g q = rw add-zero (faults_passed off gone es v g)
-  faults_spelled p (tree none s l kids rest) off lo hi gone es v a w z b g q = absurd a
+  faults_spelled p (tree None s l kids rest) off lo hi gone es v a w z b g q = absurd a
   faults_spelled p (part s l ws rest) off lo hi gone es v a w z b g q = absurd a
-  faults_spelled p (tree (some i) s l kids rest) off lo hi gone es v a w z b g q =
+  faults_spelled p (tree (Some i) s l kids rest) off lo hi gone es v a w z b g q =
       let n = off + 4 + 4 * nodes kids in
       let end = off + 4 * suc (nodes kids + nodes rest) in
       let m : n + 4 * nodes rest ≡ end = omega arith in

@@ -4,7 +4,7 @@ use mathlib.Core.Path.{◌≡◌, refl, sym, ap, ap₂, ◌∙◌}
 use mathlib.Core.Bool.{Bool, true, false, cond, not, ◌||◌}
 use mathlib.Core.Logic.{inl, inr, ◌↔◌}
 use mathlib.Core.List.{List, [], ◌∷◌, ◌++◌}
-use mathlib.Core.Option.{none, some}
+use Rattle.std.specs.Prelude.{None, Some}
 use Prim.Native.Nat.{ℕ, zero, suc, ◌+◌, ◌-◌, ◌*◌, ◌/◌, ◌%◌, ◌≤◌, ◌<◌}
 use native.Mathlib.Decide.{ℕ_discrete}
 use native.Mathlib.Omega.{arith}
@@ -52,8 +52,8 @@ cuts_beyond (part s l ws rest) (suc k) (suc j) a b h =
 
 no_parts : (ts : Trees) → Typed ts → NoParts ts
 no_parts nil a = tt
-no_parts (tree none s l kids rest) a = absurd a
-no_parts (tree (some i) s l kids rest) a = (no_parts kids a.0, no_parts rest a.1)
+no_parts (tree None s l kids rest) a = absurd a
+no_parts (tree (Some i) s l kids rest) a = (no_parts kids a.0, no_parts rest a.1)
 no_parts (part s l ws rest) a = absurd a
 
 -- an accepted part has no fault in its records

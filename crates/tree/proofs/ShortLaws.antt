@@ -3,7 +3,9 @@
 use mathlib.Core.Path.{◌≡◌, refl, sym, ap, subst, ◌∙◌}
 use mathlib.Core.Bool.{Bool, true, false, ◌&&◌, ◌||◌, true≢false}
 use mathlib.Core.List.{List, [], ◌∷◌, ◌++◌}
-use mathlib.Core.Option.{Option, none, some, map, none-ne-some, some-injective}
+use Rattle.std.specs.Prelude.{Option, None, Some}
+use Rattle.std.specs.Option.{option_map}
+use Rattle.std.proofs.lemmas.Option.{none-some, same_Some}
 use Prim.Native.Nat.{ℕ, zero, suc, ◌+◌, ◌-◌, ◌*◌, ◌≤◌, ◌<◌}
 use native.Mathlib.Omega.{arith}
 use lib.Dec.{T as So, ltb, leb, leb→le}
@@ -21,17 +23,17 @@ short-++ : (us ws : List ℕ) → Short us → Short ws → Short (us ++ ws)
 short-++ [] ws a b = b
 short-++ (u ∷ us) ws a b = (a.0, short-++ us ws a.1 b)
 
-some_suc : (o : Option ℕ) (k : ℕ) → map suc o ≡ some (suc k) → o ≡ some k
-some_suc none k e = absurd (none-ne-some (suc k) e)
-some_suc (some j) k e =
-    let q : suc j ≡ suc k = some-injective (suc j) (suc k) e in
+some_suc : (o : Option ℕ) (k : ℕ) → option_map suc o ≡ Some (suc k) → o ≡ Some k
+some_suc None k e = absurd (none-some (suc k) e)
+some_suc (Some j) k e =
+    let q : suc j ≡ suc k = same_Some (suc j) (suc k) e in
     let r : j ≡ k = omega arith in
-    ap some r
+    ap Some r
 
-stopped_zero : (own : Option ℕ) (k : ℕ) → stopped own ≡ some (suc k) → ⊥
+stopped_zero : (own : Option ℕ) (k : ℕ) → stopped own ≡ Some (suc k) → ⊥
 unfolding stopped
-stopped_zero none k e = let q : 0 ≡ suc k = some-injective 0 (suc k) e in omega arith
-stopped_zero (some r) k e = none-ne-some (suc k) e
+stopped_zero None k e = let q : 0 ≡ suc k = same_Some 0 (suc k) e in omega arith
+stopped_zero (Some r) k e = none-some (suc k) e
 
 -- a span that does not start too early
 not_early : (s low : ℕ) → early s low ≡ false → low ≤ s
@@ -39,22 +41,22 @@ unfolding early
 not_early s low p = ltb-false s low p
 
 -- the walk stops before the limit
-pub scan_limit : (own : Option ℕ) (low q : ℕ) (its : Items) (k : ℕ) → low ≤ q → scan own low its ≡ some k → low ≤ leftmost q (first k its)
+pub scan_limit : (own : Option ℕ) (low q : ℕ) (its : Items) (k : ℕ) → low ≤ q → scan own low its ≡ Some k → low ≤ leftmost q (first k its)
 unfolding scan leftmost first
 scan_limit own low q Items.nil zero h x = h
 scan_limit own low q Items.nil (suc k) h x = h
 scan_limit own low q (mark i s e n rest) zero h x = h
 scan_limit own low q (mark i s e n rest) (suc k) h x = go (scan own low rest) refl x (λ y. scan_limit own low q rest k h y)
   where
-    go : (o : Option ℕ) → scan own low rest ≡ o → ◌≡◌ {A = Option ℕ} (elim o [ none ↦ some 0 | some j ↦ some (suc j) ]) (some (suc k))
-        → (scan own low rest ≡ some k → low ≤ leftmost q (first k rest)) → low ≤ leftmost q (first k rest)
-    go none p r ih = let z : 0 ≡ suc k = some-injective 0 (suc k) r in absurd (omega arith)
-    go (some j) p r ih = ih (p ∙ some_suc (some j) k r)
+    go : (o : Option ℕ) → scan own low rest ≡ o → ◌≡◌ {A = Option ℕ} (elim o [ None ↦ Some 0 | Some j ↦ Some (suc j) ]) (Some (suc k))
+        → (scan own low rest ≡ Some k → low ≤ leftmost q (first k rest)) → low ≤ leftmost q (first k rest)
+    go None p r ih = let z : 0 ≡ suc k = same_Some 0 (suc k) r in absurd (omega arith)
+    go (Some j) p r ih = ih (p ∙ some_suc (Some j) k r)
 scan_limit own low q (span i s e kids rest) zero h x = h
 scan_limit own low q (span i s e kids rest) (suc k) h x = go (early s low) refl x (λ l y. scan_limit own low s rest k l y)
   where
-    go : (z : Bool) → early s low ≡ z → ◌≡◌ {A = Option ℕ} (elim z [ true ↦ stopped own | false ↦ map suc (scan own low rest) ]) (some (suc k))
-        → (low ≤ s → scan own low rest ≡ some k → low ≤ leftmost s (first k rest)) → low ≤ leftmost s (first k rest)
+    go : (z : Bool) → early s low ≡ z → ◌≡◌ {A = Option ℕ} (elim z [ true ↦ stopped own | false ↦ option_map suc (scan own low rest) ]) (Some (suc k))
+        → (low ≤ s → scan own low rest ≡ Some k → low ≤ leftmost s (first k rest)) → low ≤ leftmost s (first k rest)
     go true p r ih = absurd (stopped_zero own k r)
     go false p r ih = ih (not_early s low p) (some_suc (scan own low rest) k r)
 
@@ -67,32 +69,32 @@ packs_fits : (F : ℕ) (its : Items) → So (packs F its) → words F its ≤ 65
 unfolding packs
 packs_fits F its h = leb→le (words F its) 65532 (and_right (long its) (leb (words F its) 65532) h)
 
-pub run_packs : (F b : ℕ) (own : Option ℕ) (i s e : ℕ) (kids rest : Items) (k : ℕ) → run_from F b own i s e kids rest ≡ some k → Packs F b i s e kids rest k
+pub run_packs : (F b : ℕ) (own : Option ℕ) (i s e : ℕ) (kids rest : Items) (k : ℕ) → run_from F b own i s e kids rest ≡ Some k → Packs F b i s e kids rest k
 unfolding run_from
 run_packs F b own i s e kids rest k =
     go (leb (e - s) b) refl (scan own (e - b) rest) refl
   where
-    last : (j : ℕ) → scan own (e - b) rest ≡ some j → e - s ≤ b → (x : Bool) → packs F (span i s e kids (first j rest)) ≡ x
-        → ◌≡◌ {A = Option ℕ} (elim x [ true ↦ some j | false ↦ none ]) (some k) → Packs F b i s e kids rest k
+    last : (j : ℕ) → scan own (e - b) rest ≡ Some j → e - s ≤ b → (x : Bool) → packs F (span i s e kids (first j rest)) ≡ x
+        → ◌≡◌ {A = Option ℕ} (elim x [ true ↦ Some j | false ↦ None ]) (Some k) → Packs F b i s e kids rest k
     last j q h true x r =
-        let same : j ≡ k = some-injective j k r in
-        let q' : scan own (e - b) rest ≡ some k = q ∙ r in
+        let same : j ≡ k = same_Some j k r in
+        let q' : scan own (e - b) rest ≡ Some k = q ∙ r in
         let fit = packs_fits F (span i s e kids (first j rest)) (subst So (sym x) tt) in
         record { near = omega (arith, scan_limit own (e - b) s rest k (omega arith) q'); fits = rw same at fit }
-    last j q h false x r = absurd (none-ne-some k r)
+    last j q h false x r = absurd (none-some k r)
 
     go : (x : Bool) → leb (e - s) b ≡ x → (o : Option ℕ) → scan own (e - b) rest ≡ o
         → ◌≡◌ {A = Option ℕ} (elim x [
-          | false ↦ none
+          | false ↦ None
           | true ↦ elim o [
-            | none ↦ none
-            | some j ↦ elim (packs F (span i s e kids (first j rest))) [ true ↦ some j | false ↦ none ]
+            | None ↦ None
+            | Some j ↦ elim (packs F (span i s e kids (first j rest))) [ true ↦ Some j | false ↦ None ]
           ]
-        ]) (some k)
+        ]) (Some k)
         → Packs F b i s e kids rest k
-    go false p o q r = absurd (none-ne-some k r)
-    go true p none q r = absurd (none-ne-some k r)
-    go true p (some j) q r = last j q (leb→le (e - s) b (subst So (sym p) tt)) _ refl r
+    go false p o q r = absurd (none-some k r)
+    go true p None q r = absurd (none-some k r)
+    go true p (Some j) q r = last j q (leb→le (e - s) b (subst So (sym p) tt)) _ refl r
 
 -- ids below T and ends at most hi
 abbrev pub Under : (T hi : ℕ) → Items → Type 0

@@ -2,7 +2,7 @@
 use mathlib.Core.Path.{◌≡◌, refl, ◌∙◌}
 use mathlib.Core.Bool.{Bool, true, false}
 use mathlib.Core.List.{List, [], ◌∷◌, ◌++◌, append_assoc, append-nil}
-use mathlib.Core.Option.{some}
+use Rattle.std.specs.Prelude.{Some}
 use Prim.Native.Nat.{ℕ, suc, ◌+◌, ◌-◌, ◌*◌, ◌/◌, ◌≤◌}
 use native.Mathlib.Omega.{arith}
 use native.Mathlib.Nat.{add-zero}
@@ -44,7 +44,7 @@ module _ (F p : ℕ) where
   unfolding grown
   no_parts_grown i s l ts a = go (ltb i F)
     where
-      go : (x : Bool) → NoParts (elim x [ true ↦ tree (some i) s l ts nil | false ↦ ts ])
+      go : (x : Bool) → NoParts (elim x [ true ↦ tree (Some i) s l ts nil | false ↦ ts ])
       go true = (a, tt)
       go false = a
 
@@ -61,7 +61,7 @@ module _ (F p : ℕ) where
   spelled_grown off i s e n ts ws h m = go (ltb i F)
     where
       go : (x : Bool) → spelled p (off + elim x [ true ↦ 4 | false ↦ 0 ]) ts ≡ ws
-          → spelled p off (elim x [ true ↦ tree (some i) (p + (s - p)) ((e - p) - (s - p)) ts nil | false ↦ ts ])
+          → spelled p off (elim x [ true ↦ tree (Some i) (p + (s - p)) ((e - p) - (s - p)) ts nil | false ↦ ts ])
           ≡ elim x [ true ↦ i ∷ (s - p) ∷ (e - p) ∷ (off + 4 + n) ∷ [] | false ↦ [] ] ++ ws
       go true q =
           let a : (p + (s - p)) - p ≡ s - p = omega arith in

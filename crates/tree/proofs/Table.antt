@@ -4,7 +4,7 @@
 use mathlib.Core.Path.{◌≡◌, refl}
 use mathlib.Core.Bool.{false}
 use mathlib.Core.List.{List, [], ◌∷◌}
-use mathlib.Core.Option.{none, some}
+use Rattle.std.specs.Prelude.{None, Some}
 use Prim.Native.Nat.{ℕ, zero, suc, ◌+◌}
 use lib.ListN.{get_or}
 use Rattle.words.specs.Outcome.{accepted, refused, Result}
@@ -34,7 +34,7 @@ P = 1 ∷ 0 ∷ 2 ∷ 4 ∷ 2 ∷ 3 ∷ 5 ∷ 4 ∷ 3 ∷ 0 ∷ 6 ∷ 12 ∷ []
 
 -- "T 4, F 4, S 0, top 0", length bound b, with room for 28 words of cells and 12 packed words
 abbrev pub build_p : (b : ℕ) → Result
-build_p b = build_call 4 4 b 0 0 none 384 P (nines 28) (nines 12)
+build_p b = build_call 4 4 b 0 0 None 384 P (nines 28) (nines 12)
 
 -- the lines of what a build wrote: materialise on its cells and words, listing on the cells of that
 abbrev pub listed_from : (F S : ℕ) (cells words : List ℕ) → List ℕ
@@ -72,11 +72,11 @@ six_cells =
 -- n leaf trees of length 1 from s on
 unfoldable pub leaves : (n s : ℕ) → Trees
 leaves zero s = nil
-leaves (suc n) s = tree (some 1) s 1 nil (leaves n (s + 1))
+leaves (suc n) s = tree (Some 1) s 1 nil (leaves n (s + 1))
 
 -- how many children the balanced tree of n leaf trees has: the count in its first cell
 unfoldable pub children : (n : ℕ) → ℕ
-children n = get_or (balance_cells false (tree_cells 0 (tree (some 0) 0 n (leaves n 0) nil)) []).cells 5 0
+children n = get_or (balance_cells false (tree_cells 0 (tree (Some 0) 0 n (leaves n 0) nil)) []).cells 5 0
 
 -- the rows about builds
 abbrev pub Builds : Type 0
@@ -94,15 +94,15 @@ Builds =
     -- b 1: four cells, no words
     × (build_p 1 ≡ record { outcome = accepted (4 ∷ 0 ∷ []); outputs = cells_1 ∷ nines 12 ∷ [] })
     -- (1,5,7,4), S 5: two cells; S 6: 10 at record 0, outputs unchanged
-    × (build_call 4 4 1024 5 0 none 192 (1 ∷ 5 ∷ 7 ∷ 4 ∷ []) (nines 14) [] ≡ record {
+    × (build_call 4 4 1024 5 0 None 192 (1 ∷ 5 ∷ 7 ∷ 4 ∷ []) (nines 14) [] ≡ record {
       outcome = accepted (2 ∷ 0 ∷ []);
       outputs = (1 ∷ 0 ∷ 0 ∷ 2 ∷ 2 ∷ 1 ∷ 0 ∷ 1 ∷ 1 ∷ 0 ∷ 2 ∷ 0 ∷ 0 ∷ 0 ∷ []) ∷ [] ∷ [];
     })
-    × (build_call 4 4 1024 6 0 none 192 (1 ∷ 5 ∷ 7 ∷ 4 ∷ []) (nines 14) [] ≡ record { outcome = refused 10 0; outputs = nines 14 ∷ [] ∷ [] })
+    × (build_call 4 4 1024 6 0 None 192 (1 ∷ 5 ∷ 7 ∷ 4 ∷ []) (nines 14) [] ≡ record { outcome = refused 10 0; outputs = nines 14 ∷ [] ∷ [] })
     -- T 3, F 2, b 2: six cells
-    × (build_call 3 2 2 0 0 none 576 repeat_list (nines 42) [] ≡ record { outcome = accepted (6 ∷ 0 ∷ []); outputs = six_cells ∷ [] ∷ [] })
+    × (build_call 3 2 2 0 0 None 576 repeat_list (nines 42) [] ≡ record { outcome = accepted (6 ∷ 0 ∷ []); outputs = six_cells ∷ [] ∷ [] })
     -- no records: one cell, length 0
-    × (build_call 4 4 1024 0 0 none 96 [] (nines 7) [] ≡ record { outcome = accepted (1 ∷ 0 ∷ []); outputs = (1 ∷ 0 ∷ 0 ∷ 0 ∷ 0 ∷ 0 ∷ 0 ∷ []) ∷ [] ∷ [] })
+    × (build_call 4 4 1024 0 0 None 96 [] (nines 7) [] ≡ record { outcome = accepted (1 ∷ 0 ∷ []); outputs = (1 ∷ 0 ∷ 0 ∷ 0 ∷ 0 ∷ 0 ∷ 0 ∷ []) ∷ [] ∷ [] })
 
 pub builds : Builds
 unfolding nines count behind nearest farther parse_from parse own_fault fills record_fault records_check in_place or_else range_fault list_range_fault list_check check ◌⊕◌ nodes siblings is_nil kids_of first_start last_end repeats same items records first leftmost width words stopped early scan long packs run_from entry pack run_part equal_types all_of total share grows groups_from groups lone is_tree joined placed each divide balance fresh gather close pass rest_closed finish flattened flat_words held_end flat_part hold limit full ends too_deep flat walk first_level build relative packed unless_none kind id_word cells tree_cells written build_cells room build_call

@@ -3,7 +3,7 @@
 use mathlib.Core.Path.{◌≡◌, refl, sym, ap, ◌∙◌}
 use mathlib.Core.Bool.{Bool, true, false, true≢false}
 use mathlib.Core.List.{List, [], ◌++◌, append_assoc, append-nil}
-use mathlib.Core.Option.{Option, none, some}
+use Rattle.std.specs.Prelude.{Option, None, Some}
 use Prim.Native.Nat.{ℕ, zero, suc, ◌+◌, ◌-◌, ◌≤◌, ◌<◌}
 use native.Mathlib.Decide.{dec_le}
 use native.Mathlib.Omega.{arith}
@@ -89,8 +89,8 @@ module _ (F T b : ℕ) where
           → ((k : ℕ) (g' : Gathered) → gview F d (walk F b rest dep k own g') ≡ reads F d (after k rest) ++ gview F d g')
           → gview F (depth_below F d i) (inner (too_deep dep)) ≡ reads F (depth_below F d i) kids
           → gview F d (elim o [
-            | some k ↦ walk F b rest dep k own (gather (run_part F i s e kids (first k rest)) g)
-            | none ↦ walk F b rest dep zero own (gather (λ ts. finish F i s e (inner (too_deep dep)) ⊕ ts) g)
+            | Some k ↦ walk F b rest dep k own (gather (run_part F i s e kids (first k rest)) g)
+            | None ↦ walk F b rest dep zero own (gather (λ ts. finish F i s e (inner (too_deep dep)) ⊕ ts) g)
           ]) ≡ (reads F d rest ++ (line F d i s e ++ reads F (depth_below F d i) kids)) ++ gview F d g
-      go (some k) ih q = ih k _ ∙ rw (gview_packed d i s e k lo hi kids rest g f, reads_split F k d rest) (simp append_assoc)
-      go none ih q = ih zero _ ∙ rw (gview_tree d i s e (inner (too_deep dep)) g (reads F (depth_below F d i) kids) f.ordered q) (simp append_assoc)
+      go (Some k) ih q = ih k _ ∙ rw (gview_packed d i s e k lo hi kids rest g f, reads_split F k d rest) (simp append_assoc)
+      go None ih q = ih zero _ ∙ rw (gview_tree d i s e (inner (too_deep dep)) g (reads F (depth_below F d i) kids) f.ordered q) (simp append_assoc)

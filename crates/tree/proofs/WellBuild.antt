@@ -2,7 +2,7 @@
 use mathlib.Core.Path.{◌≡◌, refl}
 use mathlib.Core.Bool.{Bool, true, false, ◌&&◌, not}
 use mathlib.Core.List.{List, [], ◌∷◌}
-use mathlib.Core.Option.{Option, none, some}
+use Rattle.std.specs.Prelude.{Option, None, Some}
 use Prim.Native.Nat.{ℕ, zero, suc, ◌+◌, ◌-◌, ◌/◌, ◌≤◌, ◌<◌}
 use native.Mathlib.Omega.{arith}
 use native.Mathlib.Nat.{le_refl}
@@ -28,8 +28,8 @@ use Rattle.tree.specs.Ordered.{From, floor, Sorted, Fits, Room}
 use Rattle.tree.specs.Well.{Plain, Parts, Sound, Gathers}
 
 module _ (T : ℕ) (types : T ≤ 65536) where
-  abbrev None : ℕ → ℕ → List ℕ → Type 0
-  None s l ws = ⊥
+  abbrev Never : ℕ → ℕ → List ℕ → Type 0
+  Never s l ws = ⊥
 
   -- materialising
   pub plain_materialise : (lo hi : ℕ) (ts : Trees) → Sound T lo hi ts → Plain T lo hi (materialise ts)
@@ -38,8 +38,8 @@ module _ (T : ℕ) (types : T ≤ 65536) where
   plain_materialise lo hi (tree t s l kids rest) w =
       record { known = w.known; starts = w.starts; inner = plain_materialise s (s + l) kids w.inner; rest = plain_materialise (s + l) hi rest w.rest }
   plain_materialise lo hi (part s l ws rest) w =
-      well-⊕ T None lo (s + l) hi (unpack s 0 ws) (materialise rest)
-      (well_down T None s lo (s + l) (unpack s 0 ws) w.starts w.inner.ranges) (plain_materialise (s + l) hi rest w.rest)
+      well-⊕ T Never lo (s + l) hi (unpack s 0 ws) (materialise rest)
+      (well_down T Never s lo (s + l) (unpack s 0 ws) w.starts w.inner.ranges) (plain_materialise (s + l) hi rest w.rest)
 
   -- packed runs
   module _ (F p : ℕ) where
@@ -54,18 +54,18 @@ module _ (T : ℕ) (types : T ≤ 65536) where
         end : s + ((e - p) - (s - p)) ≡ e
         end = omega arith
 
-        go : (x : Bool) → Plain T lo hi (elim x [ true ↦ tree (some i) (p + (s - p)) ((e - p) - (s - p)) ts nil | false ↦ ts ])
+        go : (x : Bool) → Plain T lo hi (elim x [ true ↦ tree (Some i) (p + (s - p)) ((e - p) - (s - p)) ts nil | false ↦ ts ])
         go true = rw (start, end) (record { known = k; starts = b; inner = w; rest = d })
-        go false = well_down T None s lo hi ts b (well_up T None s e hi ts d w)
+        go false = well_down T Never s lo hi ts b (well_up T Never s e hi ts d w)
 
     plain_spliced : (its : Items) (lo hi : ℕ) → p ≤ lo → Fits F T lo hi its → Plain T lo hi (spliced F p its)
     unfolding spliced
     plain_spliced Items.nil lo hi h f = f
     plain_spliced (mark i s e n rest) lo hi h f =
-        well_up T None lo (floor n s e) hi (spliced F p rest) (omega (arith, floor-≤ n s e f.ordered)) (plain_spliced rest lo (floor n s e) h f.rest)
+        well_up T Never lo (floor n s e) hi (spliced F p rest) (omega (arith, floor-≤ n s e f.ordered)) (plain_spliced rest lo (floor n s e) h f.rest)
     plain_spliced (span i s e kids rest) lo hi h f =
         let low = fits-≤ F T lo s rest f.rest in
-        well-⊕ T None lo s hi (spliced F p rest) (grown F i (p + (s - p)) ((e - p) - (s - p)) (spliced F p kids))
+        well-⊕ T Never lo s hi (spliced F p rest) (grown F i (p + (s - p)) ((e - p) - (s - p)) (spliced F p kids))
         (plain_spliced rest lo s h f.rest)
         (plain_grown s hi i s e (spliced F p kids) f.known (omega arith) (le_refl s) f.ordered f.ends (plain_spliced kids s e (omega arith) f.inner))
 
@@ -78,7 +78,7 @@ module _ (T : ℕ) (types : T ≤ 65536) where
         plain_run k q rest lo (floor n s e) (omega (arith, floor-≤ n s e f.ordered)) h f.rest
     plain_run (suc k) q (span i s e kids rest) lo hi a h f =
         let low = leftmost-≤ F T k s lo s rest (le_refl s) f.rest in
-        well-⊕ T None (leftmost s (first k rest)) s q (spliced F p (first k rest)) (grown F i (p + (s - p)) ((e - p) - (s - p)) (spliced F p kids))
+        well-⊕ T Never (leftmost s (first k rest)) s q (spliced F p (first k rest)) (grown F i (p + (s - p)) ((e - p) - (s - p)) (spliced F p kids))
         (plain_run k s rest lo s (le_refl s) h f.rest)
         (plain_grown s q i s e (spliced F p kids) f.known (omega arith) (le_refl s) f.ordered (omega arith) (plain_spliced kids s e (omega arith) f.inner))
 
@@ -130,7 +130,7 @@ module _ (T : ℕ) (types : T ≤ 65536) where
       end : s + (e - s) ≡ e
       end = omega (arith, h.ordered)
 
-      go : (x : Bool) → ltb 65535 (e - s) ≡ x → S lo hi (elim x [ true ↦ tree (some i) s (e - s) nil ts | false ↦ part s (e - s) (flat_words s 0 (rec i s e n ∷ [])) ts ])
+      go : (x : Bool) → ltb 65535 (e - s) ≡ x → S lo hi (elim x [ true ↦ tree (Some i) s (e - s) nil ts | false ↦ part s (e - s) (flat_words s 0 (rec i s e n ∷ [])) ts ])
       go true q = record { known = h.known; starts = h.starts; inner = rw end h.ordered; rest = rw end (well_down T (Parts T) m e hi ts h.rest w) }
       go false q = sound_part i s e n lo m hi [] ts h w (omega (arith, ltb-false 65535 (e - s) q)) (omega arith)
   sound_flat_part b stop bound lo m hi (rec i s e n ∷ r ∷ rs) ts h room w =
@@ -196,7 +196,7 @@ module _ (T : ℕ) (types : T ≤ 65536) where
         let earlier : Plain T p s (spliced F p (first k rest)) =
         plain_run F (leftmost s (first k rest)) k s rest lo s (le_refl s) (le_refl _) f.rest in
         let own = plain_grown F p s e i s e (spliced F p kids) f.known low (le_refl s) f.ordered (le_refl e) (plain_spliced F p kids s e low f.inner) in
-        let trees = well-⊕ T None p s e (spliced F p (first k rest)) (grown F i (p + (s - p)) ((e - p) - (s - p)) (spliced F p kids)) earlier own in
+        let trees = well-⊕ T Never p s e (spliced F p (first k rest)) (grown F i (p + (s - p)) ((e - p) - (s - p)) (spliced F p kids)) earlier own in
         gathers_gather T (Parts T) hi p end (part p (e - p) (pack F p 0 run)) g
         (λ edge ts v. record {
           starts = le_refl p;
@@ -237,13 +237,13 @@ module _ (T : ℕ) (types : T ≤ 65536) where
             → ((k : ℕ) (g' : Gathered) (hi' : ℕ) → Fits F T lo hi' (after k rest) → G hi' end g' → G lo end (walk F b rest d k own g'))
             → G s e (inner (too_deep d))
             → G lo end (elim o [
-              | some k ↦ walk F b rest d k own (gather (run_part F i s e kids (first k rest)) g)
-              | none ↦ walk F b rest d zero own (gather (λ ts. finish F i s e (inner (too_deep d)) ⊕ ts) g)
+              | Some k ↦ walk F b rest d k own (gather (run_part F i s e kids (first k rest)) g)
+              | None ↦ walk F b rest d zero own (gather (λ ts. finish F i s e (inner (too_deep d)) ⊕ ts) g)
             ])
-        go (some k) r ih u =
+        go (Some k) r ih u =
             ih k (gather (run_part F i s e kids (first k rest)) g) (leftmost s (first k rest)) (fits_after F T k s lo s rest (le_refl s) f.rest)
             (gathers_packed i s e k lo hi end kids rest g f w (run_packs F b own i s e kids rest k r))
-        go none r ih u =
+        go None r ih u =
             ih zero (gather (λ ts. finish F i s e (inner (too_deep d)) ⊕ ts) g) s f.rest
             (gathers_tree i s e hi end (inner (too_deep d)) g f.known f.ordered f.ends u w)
 
@@ -252,7 +252,7 @@ module _ (T : ℕ) (types : T ≤ 65536) where
     unfolding first_level after
     sound_first_level lo f n =
         let hi = behind lo f in
-        let its = items F none f Items.nil in
-        let w = gathers_walk its 0 0 none (fresh hi) lo hi hi (fits_items F T none (own_none F) f lo hi lo Items.nil n (le_refl lo)) (gathers_fresh T (Parts T) hi) in
-        let g = walk F b its 0 0 none (fresh hi) in
+        let its = items F None f Items.nil in
+        let w = gathers_walk its 0 0 None (fresh hi) lo hi hi (fits_items F T None (own_none F) f lo hi lo Items.nil n (le_refl lo)) (gathers_fresh T (Parts T) hi) in
+        let g = walk F b its 0 0 None (fresh hi) in
         well-⊕ T (Parts T) lo g.edge hi g.loose g.groups w.loose w.groups

@@ -2,7 +2,7 @@
 use mathlib.Core.Path.{◌≡◌}
 use mathlib.Core.Bool.{Bool, true, false, ◌||◌}
 use mathlib.Core.List.{List, [], ◌∷◌}
-use mathlib.Core.Option.{Option, some}
+use Rattle.std.specs.Prelude.{Option, Some}
 use Prim.Native.Nat.{ℕ, zero, suc, ◌+◌, ◌-◌, ◌≤◌, ◌<◌}
 use native.Mathlib.Omega.{arith}
 use native.Mathlib.Nat.{le_refl}
@@ -188,8 +188,8 @@ module _ (T : ℕ) (Inside : ℕ → ℕ → List ℕ → Type 0) where
       both : W s e (g.loose ⊕ g.groups)
       both = well-⊕ s g.edge e g.loose g.groups w.loose w.groups
 
-      go : (x : Bool) → W s e (elim x [ true ↦ tree (some i) s (e - s) (g.loose ⊕ g.groups) nil | false ↦ balance (in_set false (some i)) (in_set false (some i)) s (e - s) (rest_closed i s g).groups ])
+      go : (x : Bool) → W s e (elim x [ true ↦ tree (Some i) s (e - s) (g.loose ⊕ g.groups) nil | false ↦ balance (in_set false (Some i)) (in_set false (Some i)) s (e - s) (rest_closed i s g).groups ])
       go true =
           let end : s + (e - s) ≡ e = omega arith in
           record { known = k; starts = le_refl s; inner = rw end both; rest = rw end (le_refl e) }
-      go false = well_balance (in_set false (some i)) k s e (rest_closed i s g).groups (well_rest_closed i s e g k w)
+      go false = well_balance (in_set false (Some i)) k s e (rest_closed i s g).groups (well_rest_closed i s e g k w)

@@ -2,7 +2,7 @@
 use mathlib.Core.Path.{◌≡◌, refl, ap}
 use mathlib.Core.Bool.{Bool, true, false, ◌&&◌, ◌||◌, not}
 use mathlib.Core.List.{List, [], ◌∷◌, ◌++◌, append_assoc}
-use mathlib.Core.Option.{Option, none, some}
+use Rattle.std.specs.Prelude.{Option, None, Some}
 use Prim.Native.Nat.{ℕ, zero, suc, ◌+◌, ◌-◌, ◌*◌, ◌≤◌}
 use native.Mathlib.Omega.{arith}
 use lib.Dec.{ltb, leb}
@@ -59,7 +59,7 @@ all_words g = held_words g.loose + held_words g.groups
 
 words_close : (i s : ℕ) (g : Gathered) → all_words (close i s g) ≡ all_words g
 unfolding all_words close
-words_close i s g = omega (arith, held_nil, held_tree (some i) s (g.edge - s) g.loose g.groups)
+words_close i s g = omega (arith, held_nil, held_tree (Some i) s (g.edge - s) g.loose g.groups)
 
 words_pass : (b i e : ℕ) (g : Gathered) → all_words (pass b i e g) ≡ all_words g
 unfolding pass
@@ -75,7 +75,7 @@ words_rest_closed i s g = go (is_nil g.loose)
   where
     go : (x : Bool) → held_words (elim x as (λ y. Gathered) [ true ↦ g | false ↦ close i s g ]).groups ≤ all_words g
     go true = omega arith
-    go false = omega (arith, held_tree (some i) s (g.edge - s) g.loose g.groups)
+    go false = omega (arith, held_tree (Some i) s (g.edge - s) g.loose g.groups)
 
 words_balance : (t : SetType) (s l : ℕ) (ts : Trees) → held_words (balance t t s l ts) ≡ held_words ts
 unfolding held_words
@@ -85,9 +85,9 @@ words_finish : (F i s e : ℕ) (g : Gathered) → held_words (finish F i s e g) 
 unfolding finish all_words
 words_finish F i s e g = go (ltb i F || is_nil g.groups)
   where
-    go : (x : Bool) → held_words (elim x [ true ↦ tree (some i) s (e - s) (g.loose ⊕ g.groups) nil | false ↦ balance (in_set false (some i)) (in_set false (some i)) s (e - s) (rest_closed i s g).groups ]) ≤ all_words g
-    go true = omega (arith, held_tree (some i) s (e - s) (g.loose ⊕ g.groups) nil, held_nil, held-⊕ g.loose g.groups)
-    go false = omega (arith, words_rest_closed i s g, words_balance (in_set false (some i)) s (e - s) (rest_closed i s g).groups)
+    go : (x : Bool) → held_words (elim x [ true ↦ tree (Some i) s (e - s) (g.loose ⊕ g.groups) nil | false ↦ balance (in_set false (Some i)) (in_set false (Some i)) s (e - s) (rest_closed i s g).groups ]) ≤ all_words g
+    go true = omega (arith, held_tree (Some i) s (e - s) (g.loose ⊕ g.groups) nil, held_nil, held-⊕ g.loose g.groups)
+    go false = omega (arith, words_rest_closed i s g, words_balance (in_set false (Some i)) s (e - s) (rest_closed i s g).groups)
 
 -- a child in front
 words_gather : (f : Trees → Trees) (g : Gathered) (n : ℕ) → ((ts : Trees) → held_words (f ts) ≤ n + held_words ts) → all_words (gather f g) ≤ n + all_words g
@@ -103,8 +103,8 @@ words_flat_part (rec i s e n ∷ []) ts = go (ltb 65535 (e - s))
     ws : List ℕ
     ws = flat_words s 0 (rec i s e n ∷ [])
 
-    go : (x : Bool) → held_words (elim x [ true ↦ tree (some i) s (e - s) nil ts | false ↦ part s (e - s) ws ts ]) ≤ 4 * 1 + held_words ts
-    go true = omega (arith, held_tree (some i) s (e - s) nil ts, held_nil)
+    go : (x : Bool) → held_words (elim x [ true ↦ tree (Some i) s (e - s) nil ts | false ↦ part s (e - s) ws ts ]) ≤ 4 * 1 + held_words ts
+    go true = omega (arith, held_tree (Some i) s (e - s) nil ts, held_nil)
     go false = omega (arith, held_part s (e - s) ws ts, length_flat_words s 0 (rec i s e n ∷ []))
 words_flat_part (rec i s e n ∷ r ∷ rs) ts =
     let all = rec i s e n ∷ r ∷ rs in
@@ -170,14 +170,14 @@ module _ (F b : ℕ) where
           → ((k : ℕ) (g' : Gathered) → all_words (walk F b rest d k own g') ≤ 4 * records (after k rest) + all_words g')
           → all_words (inner (too_deep d)) ≤ 4 * records kids
           → all_words (elim q [
-            | some k ↦ walk F b rest d k own (gather (run_part F i s e kids (first k rest)) g)
-            | none ↦ walk F b rest d zero own (gather (λ ts. finish F i s e (inner (too_deep d)) ⊕ ts) g)
+            | Some k ↦ walk F b rest d k own (gather (run_part F i s e kids (first k rest)) g)
+            | None ↦ walk F b rest d zero own (gather (λ ts. finish F i s e (inner (too_deep d)) ⊕ ts) g)
           ]) ≤ 4 * suc (records kids + records rest) + all_words g
-      go (some k) ih u =
+      go (Some k) ih u =
           let more = first k rest in
           let here = words_gather (run_part F i s e kids more) g (4 * suc (records kids + records more)) (run_held i s e kids more) in
           omega (arith, ih k (gather (run_part F i s e kids more) g), records_split k rest)
-      go none ih u =
+      go None ih u =
           let t = finish F i s e (inner (too_deep d)) in
           let here = words_gather (λ ts. t ⊕ ts) g (4 * records kids) (λ ts. omega (arith, held-⊕ t ts, words_finish F i s e (inner (too_deep d)))) in
           omega (arith, ih zero (gather (λ ts. t ⊕ ts) g))
@@ -186,13 +186,13 @@ module _ (F b : ℕ) where
 pub few_words : (F b S top : ℕ) (given : Option ℕ) (f : Forest) → length (packed (build F b S top given f)) ≤ 4 * count f
 unfolding build first_level all_words after records held_words packed
 few_words F b S top given f =
-    let its = items F none f Items.nil in
-    let g = walk F b its 0 0 none (fresh (behind S f)) in
+    let its = items F None f Items.nil in
+    let g = walk F b its 0 0 None (fresh (behind S f)) in
     omega (
       arith,
-      words_walk F b its 0 0 none (fresh (behind S f)),
+      words_walk F b its 0 0 None (fresh (behind S f)),
       words_fresh (behind S f),
-      records_items F none f Items.nil,
+      records_items F None f Items.nil,
       held-⊕ g.loose g.groups,
       length-append (packed (g.loose ⊕ g.groups)) [],
     )

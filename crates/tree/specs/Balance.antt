@@ -1,6 +1,6 @@
 -- Balancing.
 use Rattle.std.specs.Prelude.{Bool, true, false, ◌&&◌, List, [], ◌∷◌, ℕ, zero, suc, ◌+◌, ◌-◌, ◌*◌, ◌/◌, ltb, leb, eqb}
-use Rattle.std.proofs.Math.Option.{Option, none, some}
+use Rattle.std.specs.Prelude.{Option, None, Some}
 use Rattle.tree.specs.Trees.{Trees, nil, tree, part, ◌⊕◌, siblings, kids_of, first_start, last_end}
 
 -- A type, and whether place 0 of its set is none. "The set now says whether its place 0 is none."
@@ -14,16 +14,16 @@ in_set f t = record { none_first = f; type = t }
 -- The type that a tree counts as under a set: kind 3 is none; id 0 is none where place 0 of the set is; any other is its id.
 abbrev pub type_under : (none_first : Bool) → Option ℕ → Option ℕ
 type_under false t = t
-type_under true none = none
-type_under true (some zero) = none
-type_under true (some (suc i)) = some (suc i)
+type_under true None = None
+type_under true (Some zero) = None
+type_under true (Some (suc i)) = Some (suc i)
 
 -- are two types equal?
 unfoldable pub equal_types : Option ℕ → Option ℕ → Bool
-equal_types none none = true
-equal_types none (some i) = false
-equal_types (some r) none = false
-equal_types (some r) (some i) = eqb r i
+equal_types None None = true
+equal_types None (Some i) = false
+equal_types (Some r) None = false
+equal_types (Some r) (Some i) = eqb r i
 
 -- Is a tree of the type u one of the type t, "wherever balancing compares types"?
 abbrev pub same_type : (t : SetType) → Option ℕ → Bool
@@ -118,5 +118,5 @@ balance top t s l ts = joined top s l (divide (suc (total t ts)) t (share (total
 unfoldable pub balanced : (none_first : Bool) → Trees → Trees
 balanced f nil = nil
 balanced f (tree t s l kids rest) =
-    elim (leb (siblings kids) 8) [ true ↦ tree t s l kids rest | false ↦ balance (in_set f t) (in_set f none) s l kids ⊕ rest ]
+    elim (leb (siblings kids) 8) [ true ↦ tree t s l kids rest | false ↦ balance (in_set f t) (in_set f None) s l kids ⊕ rest ]
 balanced f (part s l ws rest) = part s l ws rest

@@ -1,6 +1,6 @@
 -- The calls: what they write, and the outcome of the build.
 use Rattle.std.specs.Prelude.{Bool, cond, List, [], ◌∷◌, ℕ, ◌*◌, ltb, length}
-use Rattle.std.proofs.Math.Option.{Option}
+use Rattle.std.specs.Prelude.{Option}
 use Rattle.words.specs.Outcome.{Outcome, accepted, refused, unless_refused, Result, settled}
 use Rattle.words.specs.Words.{front}
 use Rattle.records.specs.Forest.{Forest}

@@ -1,6 +1,6 @@
 -- Cells and packed words written from a tree, and read back into one.
 use Rattle.std.specs.Prelude.{true, false, List, [], ◌∷◌, ◌++◌, ℕ, zero, suc, ◌+◌, ◌-◌, ◌*◌, ◌/◌, eqb, length, get_or, take, drop}
-use Rattle.std.proofs.Math.Option.{Option, none, some}
+use Rattle.std.specs.Prelude.{Option, None, Some}
 use Rattle.tree.specs.Trees.{Trees, nil, tree, part, nodes, siblings}
 
 -- how many words a cell has: "Cells number from 1 in preorder, seven words each"
@@ -82,13 +82,13 @@ unless_none (part s l ws rest) c = c
 
 -- "kind (1 tree, 2 packed part, 3 tree of `NodeType::none`)"
 unfoldable pub kind : (type : Option ℕ) → ℕ
-kind none = 3
-kind (some i) = 1
+kind None = 3
+kind (Some i) = 1
 
 -- "id (0 for kinds 2 and 3)"
 unfoldable pub id_word : (type : Option ℕ) → ℕ
-id_word none = 0
-id_word (some i) = i
+id_word None = 0
+id_word (Some i) = i
 
 -- The cells of siblings with relative starts: the first one has the number c, and parts begin at word w. "first child's
 -- cell, 0 for none; kind 2: word offset of the part"; "count (children or words)"; "next sibling's cell, 0 ends the
@@ -126,7 +126,7 @@ unfoldable pub cell_tree : (ws : List ℕ) (k i s l a n : ℕ) → Trees → Tre
 cell_tree ws k i s l a n ts =
     elim (eqb k 2) [
       | true ↦ part s l (take n (drop a ws)) ts
-      | false ↦ tree (elim (eqb k 3) [ true ↦ none | false ↦ some i ]) s l (leading ts n) (following ts n)
+      | false ↦ tree (elim (eqb k 3) [ true ↦ None | false ↦ Some i ]) s l (leading ts n) (following ts n)
     ]
 
 -- the trees of the first n cells, with relative starts

@@ -1,6 +1,6 @@
 -- Flat parts, "under a tree deeper than 2,500".
 use Rattle.std.specs.Prelude.{Bool, true, false, ◌&&◌, ◌||◌, not, List, [], ◌∷◌, ℕ, suc, ◌+◌, ◌-◌, ◌*◌, ltb, leb, length}
-use Rattle.std.proofs.Math.Option.{Option, some}
+use Rattle.std.specs.Prelude.{Option, Some}
 use Rattle.words.specs.Words.{record_width}
 use Rattle.tree.specs.Trees.{Trees, nil, tree, part}
 use Rattle.tree.specs.Items.{Items, mark, span, same, records}
@@ -35,7 +35,7 @@ held_end d (rec i s e n ∷ rs) = held_end e rs
 unfoldable pub flat_part : (held : List Record) → Trees → Trees
 flat_part [] ts = ts
 flat_part (rec i s e n ∷ []) ts =
-    elim (ltb 65535 (e - s)) [ true ↦ tree (some i) s (e - s) nil ts | false ↦ part s (e - s) (flat_words s 0 (rec i s e n ∷ [])) ts ]
+    elim (ltb 65535 (e - s)) [ true ↦ tree (Some i) s (e - s) nil ts | false ↦ part s (e - s) (flat_words s 0 (rec i s e n ∷ [])) ts ]
 flat_part (rec i s e n ∷ r ∷ rs) ts = part s (held_end e (r ∷ rs) - s) (flat_words s 0 (rec i s e n ∷ r ∷ rs)) ts
 
 -- "records above 4 words are dropped; 4-word records, repeat ones too, go to a flat part"

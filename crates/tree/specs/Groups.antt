@@ -1,6 +1,6 @@
 -- What a tree gathers while its records are read from the last one back, and the tree that it becomes.
 use Rattle.std.specs.Prelude.{true, false, ◌||◌, ℕ, ◌+◌, ◌-◌, ltb, leb}
-use Rattle.std.proofs.Math.Option.{some}
+use Rattle.std.specs.Prelude.{Some}
 use Rattle.tree.specs.Trees.{Trees, nil, tree, ◌⊕◌, is_nil}
 use Rattle.tree.specs.Balance.{in_set, balance}
 
@@ -20,7 +20,7 @@ gather f g = record { groups = g.groups; loose = f g.loose; edge = g.edge }
 
 -- "the children since then form a tree of that id from there to the last group end"
 unfoldable pub close : (i s : ℕ) → Gathered → Gathered
-close i s g = record { groups = tree (some i) s (g.edge - s) g.loose g.groups; loose = nil; edge = s }
+close i s g = record { groups = tree (Some i) s (g.edge - s) g.loose g.groups; loose = nil; edge = s }
 
 -- A record of the tree's own id i that ends at e is passed over: "If such a record's end + b is at most the last group
 -- end", a group is made.
@@ -36,6 +36,6 @@ rest_closed i s g = elim (is_nil g.loose) [ true ↦ g | false ↦ close i s g ]
 unfoldable pub finish : (F i s e : ℕ) → Gathered → Trees
 finish F i s e g =
     elim (ltb i F || is_nil g.groups) [
-      | true ↦ tree (some i) s (e - s) (g.loose ⊕ g.groups) nil
-      | false ↦ balance (in_set false (some i)) (in_set false (some i)) s (e - s) (rest_closed i s g).groups
+      | true ↦ tree (Some i) s (e - s) (g.loose ⊕ g.groups) nil
+      | false ↦ balance (in_set false (Some i)) (in_set false (Some i)) s (e - s) (rest_closed i s g).groups
     ]

@@ -1,6 +1,6 @@
 -- The records under one parent as the build meets them: "reading runs from the last record back".
 use Rattle.std.specs.Prelude.{Bool, true, false, ℕ, zero, suc, ◌+◌, ◌*◌, ltb, eqb}
-use Rattle.std.proofs.Math.Option.{Option, none, some}
+use Rattle.std.specs.Prelude.{Option, None, Some}
 use Rattle.words.specs.Words.{record_width}
 use Rattle.records.specs.Forest.{Forest, empty, add, count}
 
@@ -13,12 +13,12 @@ pub data Items : Type 0 where
 
 -- the repeat id that the children of a record of id i stand under: "ids from F up are repeat records"
 unfoldable pub repeats : (F i : ℕ) → Option ℕ
-repeats F i = elim (ltb i F) [ true ↦ none | false ↦ some i ]
+repeats F i = elim (ltb i F) [ true ↦ None | false ↦ Some i ]
 
 -- is i the repeat id of the parent?
 unfoldable pub same : (own : Option ℕ) → (i : ℕ) → Bool
-same none i = false
-same (some r) i = eqb r i
+same None i = false
+same (Some r) i = eqb r i
 
 -- the items of records under a parent of the repeat id `own`, in front of the items `acc`
 unfoldable pub items : (F : ℕ) (own : Option ℕ) → Forest → (acc : Items) → Items

@@ -1,7 +1,7 @@
 -- Materialising: "no kind 2 stays, each packed record becomes a tree of its id and range under the record or tree that
 -- held it".
 use Rattle.std.specs.Prelude.{List, [], ◌∷◌, ℕ, zero, suc, ◌+◌, ◌-◌, ◌/◌}
-use Rattle.std.proofs.Math.Option.{some}
+use Rattle.std.specs.Prelude.{Some}
 use Rattle.words.specs.Words.{record_width}
 use Rattle.tree.specs.Trees.{Trees, nil, tree, part, ◌⊕◌, nodes}
 
@@ -29,7 +29,7 @@ unpack p off (i ∷ s ∷ e ∷ []) = nil
 unpack p off (i ∷ s ∷ e ∷ n ∷ ws) =
     let ts = unpack p (off + record_width) ws in
     let k = (n - (off + record_width)) / record_width in
-    tree (some i) (p + s) (e - s) (within ts k) (beyond ts k)
+    tree (Some i) (p + s) (e - s) (within ts k) (beyond ts k)
 
 unfoldable pub materialise : Trees → Trees
 materialise nil = nil

@@ -1,6 +1,7 @@
 -- The scan, and the packing of a run.
 use Rattle.std.specs.Prelude.{Bool, true, false, ◌&&◌, List, [], ◌∷◌, ◌++◌, ℕ, suc, ◌+◌, ◌-◌, ◌*◌, ltb, leb}
-use Rattle.std.proofs.Math.Option.{Option, none, some, map}
+use Rattle.std.specs.Prelude.{Option, None, Some}
+use Rattle.std.specs.Option.{option_map}
 use Rattle.words.specs.Words.{record_width}
 use Rattle.tree.specs.Trees.{Trees, part}
 use Rattle.tree.specs.Items.{Items, nil, mark, span, records, first, leftmost}
@@ -18,8 +19,8 @@ words F (span i s e kids rest) = words F rest + (width F i + words F kids)
 -- Where the walk stops before a span: "the run is the whole walk if the parent is no repeat tree", which ends here;
 -- else nothing is noted from here on.
 unfoldable pub stopped : (own : Option ℕ) → Option ℕ
-stopped none = some 0
-stopped (some r) = none
+stopped None = Some 0
+stopped (Some r) = None
 
 -- a span that starts at s "starts earlier than" the limit
 unfoldable pub early : (s limit : ℕ) → Bool
@@ -29,9 +30,9 @@ early s limit = ltb s limit
 -- that starts earlier than" the limit. Of a record counted alone "its start is not tested, and the run before it is
 -- noted". A walk that reaches the parent's span start is the run.
 unfoldable pub scan : (own : Option ℕ) (limit : ℕ) → Items → Option ℕ
-scan own limit nil = some 0
-scan own limit (mark i s e n rest) = elim (scan own limit rest) [ none ↦ some 0 | some k ↦ some (suc k) ]
-scan own limit (span i s e kids rest) = elim (early s limit) [ true ↦ stopped own | false ↦ map suc (scan own limit rest) ]
+scan own limit nil = Some 0
+scan own limit (mark i s e n rest) = elim (scan own limit rest) [ None ↦ Some 0 | Some k ↦ Some (suc k) ]
+scan own limit (span i s e kids rest) = elim (early s limit) [ true ↦ stopped own | false ↦ option_map suc (scan own limit rest) ]
 
 -- "a run above 4 words"
 unfoldable pub long : Items → Bool
@@ -46,10 +47,10 @@ packs F run = long run && leb (words F run) 65532
 unfoldable pub run_from : (F b : ℕ) (own : Option ℕ) (i s e : ℕ) (kids rest : Items) → Option ℕ
 run_from F b own i s e kids rest =
     elim (leb (e - s) b) [
-      | false ↦ none
+      | false ↦ None
       | true ↦ elim (scan own (e - b) rest) [
-        | none ↦ none
-        | some k ↦ elim (packs F (span i s e kids (first k rest))) [ true ↦ some k | false ↦ none ]
+        | None ↦ None
+        | Some k ↦ elim (packs F (span i s e kids (first k rest))) [ true ↦ Some k | false ↦ None ]
       ]
     ]
 

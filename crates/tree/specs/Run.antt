@@ -1,6 +1,6 @@
 -- A run of demand 3, in its two forms.
 use Rattle.std.specs.Prelude.{List, [], ℕ, ◌≤◌}
-use Rattle.std.proofs.Math.Option.{Option}
+use Rattle.std.specs.Prelude.{Option}
 use Rattle.records.specs.Forest.{levels, reading}
 use Rattle.records.specs.Parse.{parse}
 use Rattle.records.specs.Check.{Accepted}

@@ -1,6 +1,6 @@
 -- Trees as the build makes them.
 use Rattle.std.specs.Prelude.{Bool, true, false, List, ℕ, suc, ◌+◌}
-use Rattle.std.proofs.Math.Option.{Option}
+use Rattle.std.specs.Prelude.{Option}
 
 -- Siblings in order. A tree has a type (an id, or none for `NodeType::none`), a start, a length, its children and the
 -- siblings after it; a packed part has a start, a length, its words and the siblings after it. Starts are absolute.

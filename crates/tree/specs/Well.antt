@@ -1,7 +1,7 @@
 -- Trees in order and nested, as predicates: the cell rules that speak of ids, ranges and parts. Cited by laws and by the contracts of
 -- internal functions alone.
 use Rattle.std.specs.Prelude.{◌≡◌, List, [], ◌∷◌, ◌++◌, true, false, ℕ, ◌+◌, ◌-◌, ◌*◌, ◌≤◌, ◌<◌}
-use Rattle.std.proofs.Math.Option.{Option, none, some}
+use Rattle.std.specs.Prelude.{Option, None, Some}
 use Rattle.words.specs.Words.{record_width}
 use Rattle.tree.specs.Trees.{Trees, nil, tree, part, nodes}
 use Rattle.tree.specs.Materialise.{unpack}
@@ -11,8 +11,8 @@ use Rattle.tree.specs.Groups.{Gathered}
 
 -- a type's id is below T
 abbrev pub Known : (T : ℕ) → Option ℕ → Type 0
-Known T none = Unit {0}
-Known T (some i) = i < T
+Known T None = Unit {0}
+Known T (Some i) = i < T
 
 -- Siblings from `lo` to `hi`: each starts at or after the end of the one before it, and holds its children; `Inside`
 -- is what is asked of a part's start, length and words.

@@ -1,10 +1,9 @@
 // Internal.
-// The build and the tree calls: definitions in specs/, their laws and the two-run theorem in proofs/. In code only the widths of a cell
-// and of a line, the places of a cell's words, and the function that writes a cell.
+// The build and the tree calls: definitions in specs/, their laws and the two-run theorem in proofs/. In code only a cell with its width
+// and the places of its words, the function that writes one, the width of a line, and what a call tells that writes a tree.
 #![tactic(auto)]
 
-ghost use Rattle.std.specs.Prelude.{◌≡◌, ◌+◌, ◌≤◌};
-ghost use lib.ListN.{length};
+ghost use Rattle.std.specs.Prelude.{◌≡◌, ◌+◌, ◌≤◌, length};
 ghost use Rattle.words.specs.Words.{put};
 ghost use Rattle.tree.specs.Cells.{cell_width, cell};
 
@@ -29,26 +28,33 @@ pub const NEXT: usize = 6;
 // How many words a line has.
 pub const LINE_WIDTH: usize = 4;
 
+// A cell's words.
+#[derive(Clone, Copy, Debug, PartialEq, Eq)]
+pub struct Cell {
+    pub kind: u32,
+    pub id: u32,
+    pub position: u32,
+    pub length: u32,
+    pub first: u32,
+    pub count: u32,
+    pub next: u32,
+}
+
 // A cell from an index on.
-pub fn put_cell(
-    out: &mut [u32],
-    at: usize,
-    kind: u32,
-    id: u32,
-    position: u32,
-    length: u32,
-    first: u32,
-    count: u32,
-    next: u32,
-)
-    requires { at + cell_width ≤ lib.ListN.length out.old }
-    ensures { out.new ≡ put out.old at (cell kind id position length first count next) }
+pub fn put_cell(out: &mut [u32], at: usize, c: Cell)
+    requires { at + cell_width ≤ length out.old }
+    ensures { out.new ≡ put out.old at (cell c.kind c.id c.position c.length c.first c.count c.next) }
 {
-    out[at + KIND] = kind;
-    out[at + ID] = id;
-    out[at + POSITION] = position;
-    out[at + LENGTH] = length;
-    out[at + FIRST] = first;
-    out[at + COUNT] = count;
-    out[at + NEXT] = next;
+    words::put(
+        out,
+        at,
+        &[c.kind, c.id, c.position, c.length, c.first, c.count, c.next],
+    );
+}
+
+// How many cells and packed words a call wrote.
+#[derive(Clone, Copy, Debug, PartialEq, Eq)]
+pub struct Written {
+    pub cells: usize,
+    pub words: usize,
 }

@@ -1,4 +1,4 @@
 pub mod Outcome
 pub mod Words
 pub mod First
-pub mod Answer
+pub mod Refusal

@@ -1,6 +1,6 @@
 -- What a call of document 01 gives: a number (0: accepted), a place, counts, and what its output slices then hold.
 use Rattle.std.specs.Prelude.{ℕ, List, []}
-use Rattle.std.proofs.Math.Option.{Option, none, some}
+use Rattle.std.specs.Prelude.{Option, None, Some}
 
 pub data Outcome : Type 0 where
   -- accepted, with the counts
@@ -30,8 +30,8 @@ unless_refused (accepted counts) next = next
 
 -- the outcome of a later test where nothing was found; else refused at the place of what was found
 abbrev pub unless_found : ℕ → (ℕ → ℕ) → Option ℕ → Outcome → Outcome
-unless_found number place none next = next
-unless_found number place (some i) next = refused number (place i)
+unless_found number place None next = next
+unless_found number place (Some i) next = refused number (place i)
 
 -- The outcome of a call, and what each of its output slices holds afterwards, in the order of the parameters.
 pub record Result : Type 0 where

@@ -1,5 +1,5 @@
 -- Words read out of a list and written into one. A list of words stands for a slice of any width.
-use Rattle.std.specs.Prelude.{ℕ, ◌+◌, ◌-◌, ◌*◌, ◌<◌, ◌≡◌, List, ◌++◌, length, get_or, take, drop}
+use Rattle.std.specs.Prelude.{ℕ, ◌+◌, ◌-◌, ◌*◌, List, ◌++◌, length, get_or, take, drop}
 
 -- how many words a record has, in a record list and in a packed part
 abbrev pub record_width : ℕ
@@ -23,15 +23,10 @@ last_of w i = get_or w (i * record_width + 3) 0
 abbrev pub run : List ℕ → ℕ → ℕ → List ℕ
 run w from to = take (to - from) (drop from w)
 
--- a list with words written from an offset on
-abbrev pub put : List ℕ → ℕ → List ℕ → List ℕ
+-- a list with values written from an offset on
+abbrev pub put : {A : Type 0} → List A → ℕ → List A → List A
 put w at vs = take at w ++ (vs ++ drop (at + length vs) w)
 
 -- an output slice of which only the front is written
 abbrev pub front : List ℕ → List ℕ → List ℕ
 front vs out = vs ++ drop (length vs) out
-
--- a 16-bit word at a wider type, with its bound
-pub record Widened (x r : ℕ) : Type 0 where
-  pub same : r ≡ x
-  pub small : r < 65536

@@ -204,7 +204,7 @@ impl Rust {
         let (start, top) = (list.start, list.top);
         let given = list
             .given
-            .map_or("none".into(), |at| format!("(some {at})"));
+            .map_or("None".into(), |at| format!("(Some {at})"));
         Some(format!(
             "list_answer {types} {first} {bound} {start} {top} {given} {}\n    ≡ list_rust {} {} {} {} {}",
             antt::list(&records),

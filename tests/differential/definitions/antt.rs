@@ -22,7 +22,7 @@ const NO_CODE: &str = "// Generated: no code.\n";
 const HEAD: &str = "\
 -- Generated: each case says that the definitions give what the Rust or the model gave.
 use Rattle.std.proofs.Common.{◌≡◌, [], ◌∷◌, refl}
-use Rattle.std.proofs.Math.Option.{none, some}
+use Rattle.std.specs.Prelude.{None, Some}
 ";
 
 /// A case: what it says in antt, and its input.

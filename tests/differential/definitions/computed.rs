@@ -63,7 +63,7 @@ pub const TREES: Computed = Computed {
     text: "\
 -- What is computed of the definitions for each case, and the Rust's answers in the same order.
 use Rattle.std.specs.Prelude.{true, false, ◌&&◌, List, [], ◌∷◌, ◌++◌, ℕ, zero, suc, ◌+◌, ◌-◌, ◌*◌, ◌/◌, eqb, length}
-use Rattle.std.proofs.Math.Option.{Option, none, some}
+use Rattle.std.specs.Prelude.{Option, None, Some}
 use Rattle.words.specs.Outcome.{Result}
 use Rattle.compare.proofs.Told.{told}
 use Rattle.records.specs.Forest.{Forest, empty, add, reading}
@@ -84,8 +84,8 @@ checked T b top S list = told (check T b top S (96 * (length list / 4) + 96) lis
 
 -- the place of a cell that breaks a rule, if there is one
 unfoldable pub at_fault : Option ℕ → List ℕ
-at_fault none = []
-at_fault (some c) = c ∷ []
+at_fault None = []
+at_fault (Some c) = c ∷ []
 
 -- A list: its check, its ordinary reading, cells and words of the build, the cells that materialise writes of these, the lines that
 -- listing writes of those and of cells and words of the build, and what the cell rules say against each, counted from S.
@@ -134,8 +134,8 @@ around (suc n) e f = add empty 0 0 e (around n e f)
 -- the children of a tree of id 0 from 0 to e that stands alone; none of any other
 unfoldable pub inside : (e : ℕ) → Trees → Trees
 inside e nil = nil
-inside e (tree none s l kids rest) = nil
-inside e (tree (some i) s l kids rest) =
+inside e (tree None s l kids rest) = nil
+inside e (tree (Some i) s l kids rest) =
     elim (is_nil rest && (eqb i 0 && (eqb s 0 && eqb l e))) [ true ↦ kids | false ↦ nil ]
 inside e (part s l ws rest) = nil
 
@@ -149,9 +149,9 @@ under (suc n) e t = under n e (inside e t)
 -- listing writes of cells and words from there on under a top of their own: of all of them they take too many steps.
 unfoldable pub deep_answer : (F b n e : ℕ) (list : List ℕ) → List (List ℕ)
 deep_answer F b n e list =
-    let t : Trees = build F b 0 0 none (around n e (parse list)) in
+    let t : Trees = build F b 0 0 None (around n e (parse list)) in
     let u : Trees = under n e t in
-    let w : Written = written 0 (tree (some 0) 0 e u nil) in
+    let w : Written = written 0 (tree (Some 0) 0 e u nil) in
     let m : Trees = under n e (materialise t) in
     cells (suc n) 0 (relative 0 u) ∷ packed u ∷ cells (suc n) 0 (relative 0 m) ∷ listing F (n - 1) m
     ∷ list_cells F 0 w.cells w.words ∷ []
@@ -173,6 +173,6 @@ outline (part s l ws rest) = 2 ∷ 0 ∷ s ∷ l ∷ 0 ∷ outline rest
 -- the last of the n on
 unfoldable pub wide_answer : (F b n e k i j : ℕ) (list : List ℕ) → List ℕ
 wide_answer F b n e k i j list =
-    outline (under n e (build F b 0 0 none (around n e (add empty j 0 e (ahead k i (parse list))))))
+    outline (under n e (build F b 0 0 None (around n e (add empty j 0 e (ahead k i (parse list))))))
 ",
 };

@@ -1,89 +1,35 @@
 -- `balance::balance` meets its contract: each return is one case of the definition. Assumes nothing.
-use Rattle.rules.specs.Lowest.{bad_cell}
-use Rattle.rules.specs.Calls.{items}
-use Rattle.balance.proofs.Calling.{refuses_types, refuses_work, lent, refuses_cell, refuses_many, ready, settles}
-use Rattle.words.specs.Answer.{place_found}
-use Prim.Native.Nat.{ℕ, ◌+◌, ◌*◌, ◌≤◌}
-use mathlib.Core.Bool.{Bool, false}
-use mathlib.Core.List.{List}
-use mathlib.Core.Option.{none}
-use mathlib.Core.Path.{◌≡◌, sym, ap, ◌∙◌}
-use lib.Dec.{ltb}
-use lib.ListN.{length}
+use Rattle.balance.proofs.Calling.{refuses_types, refuses_work, refuses_cell, refuses_many, ready, settles}
+use mathlib.Core.Path.{sym}
 use native.Mathlib.Omega.{arith}
-use Rattle.balance.proofs.balance.Goals.{Else-too_little_work, Else-types-gt65536, In_default, Start}
+use borrow.Author.Tests.{ltb-false}
 use Rattle.balance.proofs.balance.Goals as goal
 
--- what the call is given
-module _ (z : Start) where
-  abbrev types : ℕ
-  types = z.args.types
-
-  abbrev none_first : Bool
-  none_first = z.args.none_first
-
-  abbrev cs : List ℕ
-  cs = z.args.cells.now
-
-  abbrev ws : List ℕ
-  ws = z.args.words.now
-
-  abbrev work : ℕ
-  work = length z.args.work.now
-
-  abbrev out : List ℕ
-  out = z.args.out.now
-
-  abbrev packed : List ℕ
-  packed = z.args.packed.now
-
--- past 1
-module _ (e : Else-types-gt65536) where
-  few_types : types (goal.at.Else-types-gt65536 e).Start ≤ 65536
-  few_types = omega (arith, e.if-types-gt65536.false)
-
--- past 11
-module _ (e : Else-too_little_work) where
-  enough_work : ltb (work (goal.at.Else-too_little_work e).Start) (96 * items (cs (goal.at.Else-too_little_work e).Start) (ws (goal.at.Else-too_little_work e).Start) + 96) ≡ false
-  enough_work = sym e.too_little_work.ensures ∙ e.if-too_little_work.false
-
-  work_lent : 96 * items (cs (goal.at.Else-too_little_work e).Start) (ws (goal.at.Else-too_little_work e).Start) + 96 ≤ work (goal.at.Else-too_little_work e).Start
-  work_lent = lent (types (goal.at.Else-too_little_work e).Start) (none_first (goal.at.Else-too_little_work e).Start) (cs (goal.at.Else-too_little_work e).Start) (ws (goal.at.Else-too_little_work e).Start) (work (goal.at.Else-too_little_work e).Start) (out (goal.at.Else-too_little_work e).Start) (packed (goal.at.Else-too_little_work e).Start) (few_types (goal.at.Else-too_little_work e).Else-types-gt65536) enough_work
-
--- past 15
-module _ (e : In_default) where
-  no_fault : bad_cell (types (goal.at.In_default e).Start) 0 (cs (goal.at.In_default e).Start) (ws (goal.at.In_default e).Start) ≡ none
-  no_fault = sym e.tree_check.ensures ∙ ap place_found e.in_default.is
-
 pub returns-then-types-gt65536 : goal.returns-then-types-gt65536
-returns-then-types-gt65536 c =
-    refuses_types (types (goal.at.returns-then-types-gt65536 c).Start) (none_first (goal.at.returns-then-types-gt65536 c).Start) (cs (goal.at.returns-then-types-gt65536 c).Start) (ws (goal.at.returns-then-types-gt65536 c).Start) (work (goal.at.returns-then-types-gt65536 c).Start) (out (goal.at.returns-then-types-gt65536 c).Start) (packed (goal.at.returns-then-types-gt65536 c).Start) c.if-types-gt65536.true
+returns-then-types-gt65536 c = refuses_types _ _ _ _ _ _ _ c.if-types-gt65536.true
 
 pub returns-then-too_little_work : goal.returns-then-too_little_work
-returns-then-too_little_work c =
-    let little = sym c.too_little_work.ensures ∙ c.if-too_little_work.true in
-    refuses_work (types (goal.at.returns-then-too_little_work c).Start) (none_first (goal.at.returns-then-too_little_work c).Start) (cs (goal.at.returns-then-too_little_work c).Start) (ws (goal.at.returns-then-too_little_work c).Start) (work (goal.at.returns-then-too_little_work c).Start) (out (goal.at.returns-then-too_little_work c).Start) (packed (goal.at.returns-then-too_little_work c).Start) (few_types (goal.at.returns-then-too_little_work c).Else-types-gt65536) little
+returns-then-too_little_work c = refuses_work _ _ _ _ _ _ _ c.if-types-gt65536.false (sym c.if-too_little_work.ensures)
 
-pub tree_check-requires : goal.tree_check-requires
-tree_check-requires c = record { types_bound = few_types (goal.at.tree_check-requires c).Else-types-gt65536; words_in_bounds = work_lent (goal.at.tree_check-requires c).Else-too_little_work }
+pub tree_check-requires-clause-words_in_bounds : goal.tree_check-requires-clause-words_in_bounds
+tree_check-requires-clause-words_in_bounds c = ltb-false _ _ (sym c.if-too_little_work.ensures)
 
-pub returns-in-At : goal.returns-in-At
-returns-in-At c =
-    let fault = sym c.tree_check.ensures ∙ ap place_found c.in-At.is in
-    refuses_cell (types (goal.at.returns-in-At c).Start) (none_first (goal.at.returns-in-At c).Start) (cs (goal.at.returns-in-At c).Start) (ws (goal.at.returns-in-At c).Start) (work (goal.at.returns-in-At c).Start) (out (goal.at.returns-in-At c).Start) (packed (goal.at.returns-in-At c).Start) (few_types (goal.at.returns-in-At c).Else-types-gt65536) (enough_work (goal.at.returns-in-At c).Else-too_little_work) c.in-At.at fault
+pub returns-in-Some : goal.returns-in-Some
+returns-in-Some c =
+    refuses_cell _ _ _ _ _ _ _ c.if-types-gt65536.false (sym c.if-too_little_work.ensures) c.in-Some.at (sym c.in-Some.ensures)
 
 pub returns-then-cells-words-gt-MOST_ITEMS : goal.returns-then-cells-words-gt-MOST_ITEMS
 returns-then-cells-words-gt-MOST_ITEMS c =
-    refuses_many (types (goal.at.returns-then-cells-words-gt-MOST_ITEMS c).Start) (none_first (goal.at.returns-then-cells-words-gt-MOST_ITEMS c).Start) (cs (goal.at.returns-then-cells-words-gt-MOST_ITEMS c).Start) (ws (goal.at.returns-then-cells-words-gt-MOST_ITEMS c).Start) (work (goal.at.returns-then-cells-words-gt-MOST_ITEMS c).Start) (out (goal.at.returns-then-cells-words-gt-MOST_ITEMS c).Start) (packed (goal.at.returns-then-cells-words-gt-MOST_ITEMS c).Start) (few_types (goal.at.returns-then-cells-words-gt-MOST_ITEMS c).Else-types-gt65536) (enough_work (goal.at.returns-then-cells-words-gt-MOST_ITEMS c).Else-too_little_work) (no_fault (goal.at.returns-then-cells-words-gt-MOST_ITEMS c).In_default)
-    (omega (arith, c.if-cells-words-gt-MOST_ITEMS.true))
+    refuses_many _ _ _ _ _ _ _ c.if-types-gt65536.false (sym c.if-too_little_work.ensures) (sym c.in_default.ensures)
+    c.if-cells-words-gt-MOST_ITEMS.true
 
 pub balance_accepted-requires : goal.balance_accepted-requires
 balance_accepted-requires c =
-    ready (types (goal.at.balance_accepted-requires c).Start) (none_first (goal.at.balance_accepted-requires c).Start) (cs (goal.at.balance_accepted-requires c).Start) (ws (goal.at.balance_accepted-requires c).Start) (work (goal.at.balance_accepted-requires c).Start) (out (goal.at.balance_accepted-requires c).Start) (packed (goal.at.balance_accepted-requires c).Start) (few_types (goal.at.balance_accepted-requires c).Else-types-gt65536) (enough_work (goal.at.balance_accepted-requires c).Else-too_little_work) (no_fault (goal.at.balance_accepted-requires c).In_default)
-    (omega (arith, c.if-cells-words-gt-MOST_ITEMS.false)) (length c.tree_check.new.work) c.tree_check.auto.work
-    (λ j. omega (arith, c.type_inv.words j))
+    let a = c.args in
+    ready a.types a.none_first a.cells.now a.words.now _ a.out.now a.packed.now c.if-types-gt65536.false (sym c.if-too_little_work.ensures) (sym c.in_default.ensures)
+    c.if-cells-words-gt-MOST_ITEMS.false _ c.tree_check.auto.work (λ j. omega (arith, c.type_inv.words j))
 
 pub returns : goal.returns
 returns c =
-    settles (types (goal.at.returns c).Start) (none_first (goal.at.returns c).Start) (cs (goal.at.returns c).Start) (ws (goal.at.returns c).Start) (work (goal.at.returns c).Start) (out (goal.at.returns c).Start) (packed (goal.at.returns c).Start) (few_types (goal.at.returns c).Else-types-gt65536) (enough_work (goal.at.returns c).Else-too_little_work) (no_fault (goal.at.returns c).In_default)
-    (omega (arith, c.if-cells-words-gt-MOST_ITEMS.false)) _ c.balance_accepted.ensures
+    settles _ _ _ _ _ _ _ c.if-types-gt65536.false (sym c.if-too_little_work.ensures) (sym c.in_default.ensures)
+    c.if-cells-words-gt-MOST_ITEMS.false _ c.balance_accepted.ensures

@@ -15,8 +15,8 @@ decreases-divide_balanced l = 2 * l.size
 
 abbrev pub invariant-divide_balanced-loop-left : goal.invariant-divide_balanced-loop-left
 invariant-divide_balanced-loop-left l =
-    (w : List ℕ) (p : DivideReady w l.top l.stack l.node l.k l.kind l.id l.m l.size l.next) → Pushed w l.initial.work l.stack l.node l.k l.kind l.id l.m l.initial.sp
-    → (gs : List Trees) × (ts : Trees) × L.Dividing p l.work l.high l.done l.left l.sp gs ts
+    (w : List ℕ) (p : DivideReady w l.top l.stack l.node l.k l.balance_type.kind l.balance_type.id l.m l.size l.next) → Pushed w l.initial.work l.stack l.node l.k l.balance_type.kind l.balance_type.id l.m l.initial.sp
+    → (gs : List Trees) × (ts : Trees) × L.Dividing p l.work l.made.top l.made.node l.left l.sp gs ts
 
 abbrev pub decreases-divide_balanced-loop-left : goal.decreases-divide_balanced-loop-left
 decreases-divide_balanced-loop-left l = l.left

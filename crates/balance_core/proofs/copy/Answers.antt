@@ -1,50 +1,27 @@
 -- `balance_core::copy` meets its contract: a node again, with another next. Assumes nothing.
-use Rattle.balance_core.proofs.Copies.{copy_inside, copy_room, copy_onto, copy_kids, copy_fits, copied_tree, copied_part}
-use native.Mathlib.Omega.{arith}
+use Rattle.balance_core.proofs.Copies.{copy_inside, copy_onto, copy_kids, copied_tree, copied_part}
 use Rattle.balance_core.proofs.copy.Goals as goal
 
-pub word_at-kind-requires : goal.word_at-kind-requires
-word_at-kind-requires c = record { node_width_in_bounds = copy_inside c.requires; k_lt_node_width = omega arith }
+pub node_at-n-requires : goal.node_at-n-requires
+node_at-n-requires c = copy_inside c.requires
 
-pub word_at-id-requires : goal.word_at-id-requires
-word_at-id-requires c = record { node_width_in_bounds = copy_inside c.requires; k_lt_node_width = omega arith }
-
-pub word_at-start-requires : goal.word_at-start-requires
-word_at-start-requires c = record { node_width_in_bounds = copy_inside c.requires; k_lt_node_width = omega arith }
-
-pub word_at-length-requires : goal.word_at-length-requires
-word_at-length-requires c = record { node_width_in_bounds = copy_inside c.requires; k_lt_node_width = omega arith }
-
-pub word_at-first-requires : goal.word_at-first-requires
-word_at-first-requires c = record { node_width_in_bounds = copy_inside c.requires; k_lt_node_width = omega arith }
-
-pub push_part-made-requires : goal.push_part-made-requires
-push_part-made-requires c = record { node_width_bound = copy_room c.requires; readable = copy_onto c.requires }
-
-pub overflow_add-result : goal.overflow_add-result
-overflow_add-result c = omega (arith, copy_fits c.requires)
-
-pub shape_of-work-then-kind-eq2 : goal.shape_of-work-then-kind-eq2
-shape_of-work-then-kind-eq2 c = c.push_part-made.ensures.kept.size
+pub push_part-made-requires-clause-readable : goal.push_part-made-requires-clause-readable
+push_part-made-requires-clause-readable c = copy_onto c.requires
 
 -- a part
-pub returns-then-kind-eq2 : goal.returns-then-kind-eq2
-returns-then-kind-eq2 c =
-    copied_part c.word_at-kind.ensures c.word_at-id.ensures c.word_at-start.ensures c.word_at-length.ensures
-    c.word_at-first.ensures c.if-kind-eq2.true c.push_part-made.ensures
+pub returns-then-n-eq2 : goal.returns-then-n-eq2
+returns-then-n-eq2 c =
+    let n = c.node_at-n.ensures in
+    copied_part n.kind n.id n.start n.length n.first c.if-n-eq2.true c.push_part-made.ensures
 
-pub push_tree-made-requires : goal.push_tree-made-requires
-push_tree-made-requires c =
-    record { node_width_bound = copy_room c.requires; readable = copy_kids c.requires c.word_at-kind.ensures c.word_at-first.ensures c.if-kind-eq2.false; readable_2 = copy_onto c.requires }
+pub push_tree-made-requires-clause-readable : goal.push_tree-made-requires-clause-readable
+push_tree-made-requires-clause-readable c = copy_kids c.requires c.node_at-n.ensures.kind c.node_at-n.ensures.first c.if-n-eq2.false
 
-pub overflow_add-result-2 : goal.overflow_add-result-2
-overflow_add-result-2 c = omega (arith, copy_fits c.requires)
-
-pub shape_of-work : goal.shape_of-work
-shape_of-work c = c.push_tree-made.ensures.kept.size
+pub push_tree-made-requires-clause-readable_2 : goal.push_tree-made-requires-clause-readable_2
+push_tree-made-requires-clause-readable_2 c = copy_onto c.requires
 
 -- a tree
 pub returns : goal.returns
 returns c =
-    copied_tree c.word_at-kind.ensures c.word_at-id.ensures c.word_at-start.ensures c.word_at-length.ensures
-    c.word_at-first.ensures c.if-kind-eq2.false c.push_tree-made.ensures
+    let n = c.node_at-n.ensures in
+    copied_tree n.kind n.id n.start n.length n.first c.if-n-eq2.false c.push_tree-made.ensures

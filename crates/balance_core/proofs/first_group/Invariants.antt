@@ -5,8 +5,8 @@ use Rattle.tree.specs.Trees.{Trees}
 use Prim.Native.Nat.{◌-◌}
 use Rattle.balance_core.proofs.first_group.Given as goal
 
-abbrev pub invariant-loop-count : goal.invariant-loop-count
-invariant-loop-count l = (p : Row l.work l.node l.k l.kind l.id) → (first : Trees) × (rest : Trees) × Growing l.m p l.count l.size l.next l.end first rest
+abbrev pub invariant-loop-g : goal.invariant-loop-g
+invariant-loop-g l = (p : Row l.work l.node l.k l.balance_type.kind l.balance_type.id) → (first : Trees) × (rest : Trees) × Growing l.m p l.g.count l.g.size l.g.next l.g.end first rest
 
-abbrev pub decreases-loop-count : goal.decreases-loop-count
-decreases-loop-count l = l.k - l.count
+abbrev pub decreases-loop-g : goal.decreases-loop-g
+decreases-loop-g l = l.k - l.g.count

@@ -8,7 +8,7 @@ is_one-requires c = join_node c.requires
 
 pub copy-requires : goal.copy-requires
 copy-requires c =
-    join_copy c.args.start c.args.length c.is_one.ensures c.if-is_one.true c.requires
+    join_copy c.args.p.start c.args.p.length c.is_one.ensures c.if-is_one.true c.requires
 
 pub shape_of-work-then-is_one : goal.shape_of-work-then-is_one
 shape_of-work-then-is_one c = c.copy.ensures.kept.size
@@ -16,7 +16,7 @@ shape_of-work-then-is_one c = c.copy.ensures.kept.size
 -- the list is that tree
 pub returns-then-is_one : goal.returns-then-is_one
 returns-then-is_one c =
-    join_copied c.args.start c.args.length c.is_one.ensures c.if-is_one.true c.copy.ensures
+    join_copied c.args.p.start c.args.p.length c.is_one.ensures c.if-is_one.true c.copy.ensures
 
 pub push_tree-made-requires : goal.push_tree-made-requires
 push_tree-made-requires c = record { node_width_bound = join_room c.requires; readable = join_node c.requires; readable_2 = join_next c.requires }
@@ -30,4 +30,4 @@ shape_of-work c = c.push_tree-made.ensures.kept.size
 -- a new node
 pub returns : goal.returns
 returns c =
-    join_pushed c.args.start c.args.length c.is_one.ensures c.if-is_one.false c.push_tree-made.ensures
+    join_pushed c.args.p.start c.args.p.length c.is_one.ensures c.if-is_one.false c.push_tree-made.ensures

@@ -6,5 +6,5 @@ use Rattle.balance_core.proofs.row_size.Goals as goal
 pub returns : goal.returns
 returns c = λ p.
     let a = c.args in
-    let g = c.first_group-g.result in
-    row_sized a.work.now a.node a.k a.kind a.id 4294967295 p g.count g.size g.next g.end refl c.requires.le_k (c.first_group-g.ensures p)
+    let g = c.first_group.result in
+    row_sized a.work.now a.node a.k a.balance_type.kind a.balance_type.id 4294967295 p g.count g.size g.next g.end refl c.requires.le_k (c.first_group.ensures p)

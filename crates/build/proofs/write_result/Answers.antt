@@ -1,5 +1,5 @@
 -- `build::write_result` meets its contract: the counts in the first node decide 12 and 13. Assumes nothing.
-use mathlib.Core.Path.{refl, ◌∙◌}
+use mathlib.Core.Path.{refl}
 use Prim.Native.Nat.{◌+◌}
 use native.Mathlib.Omega.{arith}
 use Rattle.build.proofs.Writing.{kids_read, refuses_words, top_ready, writes}
@@ -9,18 +9,18 @@ pub tell-requires : goal.tell-requires
 tell-requires c =
     record { readable = kids_read c.args.work.now c.args.first.top c.args.first.kids c.requires; k_lt_node_width = omega arith }
 
-pub tell-requires-2 : goal.tell-requires-2
-tell-requires-2 c =
+pub tell-packed-requires : goal.tell-packed-requires
+tell-packed-requires c =
     record { readable = kids_read c.args.work.now c.args.first.top c.args.first.kids c.requires; k_lt_node_width = omega arith }
 
 pub returns-then-words-packed : goal.returns-then-words-packed
 returns-then-words-packed c =
-    λ q. refuses_words c.args.work.now c.args.first.top c.args.first.kids q c.args.id c.args.start c.args.length c.args.cells.now c.args.words.now (c.index-count.result + 1) c.index-count.result (c.index-count.ensures ∙ c.tell.ensures) refl (omega arith) c.index-packed.result (c.index-packed.ensures ∙ c.tell-2.ensures) c.if-words-packed.true
+    λ q. refuses_words c.args.work.now c.args.first.top c.args.first.kids q c.args.id c.args.start c.args.length c.args.cells.now c.args.words.now (c.tell.result + 1) c.tell.result c.tell.ensures refl (omega arith) c.tell-packed.result c.tell-packed.ensures c.if-words-packed.true
 
 pub write_top-requires : goal.write_top-requires
 write_top-requires c =
-    top_ready c.args.work.now c.args.first.top c.args.first.kids c.requires c.args.id c.args.start c.args.length c.args.cells.now c.args.words.now (c.index-count.result + 1) c.index-count.result (c.index-count.ensures ∙ c.tell.ensures) refl (omega arith) c.index-packed.result (c.index-packed.ensures ∙ c.tell-2.ensures) (omega (arith, c.if-words-packed.false))
+    top_ready c.args.work.now c.args.first.top c.args.first.kids c.requires c.args.id c.args.start c.args.length c.args.cells.now c.args.words.now (c.tell.result + 1) c.tell.result c.tell.ensures refl (omega arith) c.tell-packed.result c.tell-packed.ensures (omega (arith, c.if-words-packed.false))
 
 pub returns : goal.returns
 returns c =
-    λ q. writes c.args.work.now c.args.first.top c.args.first.kids q c.args.id c.args.start c.args.length c.args.cells.now c.args.words.now (c.index-count.result + 1) c.index-count.result (c.index-count.ensures ∙ c.tell.ensures) refl (omega arith) c.index-packed.result (c.index-packed.ensures ∙ c.tell-2.ensures) (omega (arith, c.if-words-packed.false)) c.write_top.new.out c.write_top.new.words c.write_top.ensures
+    λ q. writes c.args.work.now c.args.first.top c.args.first.kids q c.args.id c.args.start c.args.length c.args.cells.now c.args.words.now (c.tell.result + 1) c.tell.result c.tell.ensures refl (omega arith) c.tell-packed.result c.tell-packed.ensures (omega (arith, c.if-words-packed.false)) c.write_top.new.out c.write_top.new.words c.write_top.ensures

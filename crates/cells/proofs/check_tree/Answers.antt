@@ -1,12 +1,14 @@
 -- `cells::check_tree` meets its contract: each return is one case of the definition. Assumes nothing.
-use mathlib.Core.Path.{refl}
-use mathlib.Core.List.{List}
+use mathlib.Core.Path.{refl, ◌∙◌}
+use mathlib.Core.List.{List, [], ◌∷◌}
 use Prim.Native.Nat.{ℕ, ◌+◌, ◌*◌, ◌≤◌, ◌/◌}
 use native.Mathlib.Omega.{arith}
 use lib.ListN.{length}
 use Rattle.tree.specs.Cells.{cell_width}
 use Rattle.rules.specs.Calls.{items}
-use Rattle.cells.proofs.Walking.{bad_empty, bad_ragged, bad_none, bad_some}
+use Rattle.rules.specs.Cell.{cells_of}
+use Rattle.rules.specs.Lowest.{lowest_from, top_named}
+use Rattle.cells.proofs.Walking.{bad_empty, bad_ragged, bad_named}
 use Rattle.cells.proofs.check_tree.Goals as goal
 
 room : (cs ws : List ℕ) (m : ℕ) → 96 * items cs ws + 96 ≤ m → length cs / cell_width * 5 + 8 + length ws ≤ m
@@ -27,8 +29,8 @@ pub chain_lengths-requires : goal.chain_lengths-requires
 chain_lengths-requires c =
     let a = c.args in record { cell_width_value = omega (arith, c.if-cells-ne0.false); n_in_bounds = omega (arith, room a.cells.now a.words.now _ c.requires.words_in_bounds) }
 
-pub check_cells-lowest-requires : goal.check_cells-lowest-requires
-check_cells-lowest-requires c =
+pub check_cells-requires : goal.check_cells-requires
+check_cells-requires c =
     record {
       given = record {
         cells = omega (arith, c.if-cells-ne0.false);
@@ -40,14 +42,8 @@ check_cells-lowest-requires c =
       record_width_in_bounds = omega (arith, c.requires.record_width_in_bounds);
     }
 
-pub returns-then-lowest-eq0 : goal.returns-then-lowest-eq0
-returns-then-lowest-eq0 c =
-    let a = c.args in
-    bad_none a.types a.start a.cells.now a.words.now (length a.cells.now / cell_width) c.check_cells-lowest.result
-    c.if-cells-eq0.false c.if-cells-ne0.false refl c.check_cells-lowest.ensures c.if-lowest-eq0.true
-
 pub returns : goal.returns
 returns c =
     let a = c.args in
-    bad_some a.types a.start a.cells.now a.words.now (length a.cells.now / cell_width) c.check_cells-lowest.result
-    c.if-cells-eq0.false c.if-cells-ne0.false refl c.check_cells-lowest.ensures c.if-lowest-eq0.false
+    let lowest = lowest_from a.types a.words.now (length a.cells.now / cell_width) 1 0 (top_named a.start ∷ []) (cells_of a.cells.now) in
+    c.check_cells.ensures ∙ bad_named a.types a.start a.cells.now a.words.now (length a.cells.now / cell_width) lowest c.if-cells-eq0.false c.if-cells-ne0.false refl refl

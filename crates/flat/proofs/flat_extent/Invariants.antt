@@ -2,8 +2,5 @@
 use Rattle.flat.proofs.Extending.{Extending}
 use Rattle.flat.proofs.flat_extent.Given as goal
 
-abbrev pub invariant-loop-x : goal.invariant-loop-x
-invariant-loop-x l = Extending l.records l.p l.lo l.bound l.x.p l.x.count l.x.first l.x.end
-
-abbrev pub decreases-loop-x : goal.decreases-loop-x
-decreases-loop-x l = l.x.p
+abbrev pub invariant-loop-q : goal.invariant-loop-q
+invariant-loop-q l = Extending l.records l.p l.lo l.bound l.q l.x

@@ -4,6 +4,5 @@ use Rattle.flat.proofs.stage_record.Goals as goal
 
 pub returns : goal.returns
 returns c =
-    staged_record c.start_at.ensures c.less-from.ensures c.end_at.ensures c.less-to.ensures
-    c.id_at-id.ensures c.stage-third.ensures c.stage-second.ensures c.stage-first.ensures
-    c.stage.ensures
+    staged_record c.start_at.ensures c.saturating_sub-from.ensures c.end_at.ensures c.saturating_sub-to.ensures
+    c.id_at-id.ensures c.stage-third.ensures c.stage-second.ensures c.stage-first.ensures c.stage.ensures

@@ -1,24 +1,20 @@
 -- `gateway::hulwyth_list` meets its contract: what is told is what the call answers. Assumes nothing.
-use mathlib.Core.Path.{◌≡◌, sym, ap, ◌∙◌}
-use mathlib.Core.List.{[], ◌∷◌}
-use Rattle.words.specs.Outcome.{accepted, refused}
-use Rattle.listing.specs.Answer.{listed_outcome}
-use Rattle.listing.specs.declared.Listed.{Listed}
-use Rattle.rules.specs.Calls.{list_call}
-use lib.ListN.{length}
-use Rattle.gateway.proofs.Telling.{told_result_as}
-use Rattle.gateway.proofs.hulwyth_list.Goals.{After-list-answer}
+use Rattle.std.proofs.Common.{ℕ, [], ◌∷◌}
+use Rattle.std.specs.declared.result.Result.{Result}
+use mathlib.Core.Path.{sym, ap, ◌∙◌}
+use Rattle.words.specs.Outcome.{accepted}
+use Rattle.words.specs.Refusal.{answered}
+use Rattle.words.specs.declared.refusal.Refusal.{Refusal}
+use Rattle.listing.specs.Answer.{listed_counts}
+use Rattle.gateway.proofs.Telling.{told_result_as, told_result_refused}
 use Rattle.gateway.proofs.hulwyth_list.Goals as goal
 
--- the answer with the outputs beside it is the result of the definition
-module _ (a : After-list-answer) where
-  answered_at : (v : Listed) → a.list-answer.result ≡ v → record { outcome = listed_outcome v; outputs = a.list-answer.new.lines ∷ [] } ≡ list_call a.args.types a.args.first_repeat a.args.start a.args.cells.now a.args.words.now (length a.args.work.now) a.args.lines.now
-  answered_at v e = ap (λ (x : Listed). record { outcome = listed_outcome x; outputs = a.list-answer.new.lines ∷ [] }) (sym e) ∙ a.list-answer.ensures
+pub returns-in-Ok : goal.returns-in-Ok
+returns-in-Ok c =
+    let e = ap (λ (x : Result ℕ Refusal). record { outcome = answered listed_counts x; outputs = c.list.new.lines ∷ [] }) (sym c.in-Ok.is) ∙ c.list.ensures in
+    told_result_as 2 _ (accepted (c.in-Ok.count ∷ [])) _ _ _ e c.tell.ensures
 
-pub returns-in-Lines : goal.returns-in-Lines
-returns-in-Lines c =
-    told_result_as 2 _ (accepted (c.in-Lines.count ∷ [])) _ _ _ (answered_at (goal.at.returns-in-Lines c).After-list-answer _ c.in-Lines.is) c.tell.ensures
-
-pub returns-in-Refused : goal.returns-in-Refused
-returns-in-Refused c =
-    told_result_as 2 _ (refused c.in-Refused.number c.in-Refused.place) _ _ _ (answered_at (goal.at.returns-in-Refused c).After-list-answer _ c.in-Refused.is) c.tell-in-Refused.ensures
+pub returns-in-Err : goal.returns-in-Err
+returns-in-Err c =
+    let e = ap (λ (x : Result ℕ Refusal). record { outcome = answered listed_counts x; outputs = c.list.new.lines ∷ [] }) (sym c.in-Err.is) ∙ c.list.ensures in
+    rw c.refuse.ensures.number (told_result_refused _ c.in-Err.refusal _ _ _ e c.refuse.ensures.place)

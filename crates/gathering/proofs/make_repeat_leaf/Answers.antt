@@ -3,4 +3,4 @@ use Rattle.gathering.proofs.Closing.{closed}
 use Rattle.gathering.proofs.make_repeat_leaf.Goals as goal
 
 pub returns : goal.returns
-returns c = closed c.less-length.ensures c.push_tree-made.ensures
+returns c = closed c.saturating_sub-length.ensures c.push_tree-groups.ensures

@@ -3,8 +3,8 @@ use Rattle.gathering.proofs.Passing.{passed_close, passed_on}
 use native.Mathlib.Omega.{arith}
 use Rattle.gathering.proofs.pass_over.Goals as goal
 
-pub returns-then-end-bound : goal.returns-then-end-bound
-returns-then-end-bound c = passed_close c.if-end-bound.true c.make_repeat_leaf.ensures
+pub returns-then-from : goal.returns-then-from
+returns-then-from c = passed_close (omega arith) c.make_repeat_leaf.ensures
 
 pub returns : goal.returns
-returns c = passed_on (omega (arith, c.if-end-bound.false))
+returns c = passed_on (omega arith)

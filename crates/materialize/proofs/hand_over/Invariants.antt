@@ -4,6 +4,3 @@ use Rattle.materialize.proofs.hand_over.Given as goal
 
 abbrev pub invariant-loop-left : goal.invariant-loop-left
 invariant-loop-left l = Going l.work l.initial.out l.out l.low l.sp l.limit l.start l.left
-
-abbrev pub decreases-loop-left : goal.decreases-loop-left
-decreases-loop-left l = l.left

@@ -1,11 +1,8 @@
 -- `part::still_open` meets its contract. The invariant: the ends from t on are not above the offset. Assumes nothing.
-use lib.ListN.{get_or}
+use Rattle.std.proofs.Common.{arith, get_or, ◌≡◌, ℕ, ◌+◌, ◌-◌, ◌≤◌, ◌<◌, List}
+use mathlib.Core.Path.{sym, subst}
 use native.Mathlib.Decide.{dec_le}
-use native.Mathlib.Nat.{le_refl, lt_irrefl, lt_of_le_of_lt}
-use native.Mathlib.Omega.{arith}
-use Prim.Native.Nat.{ℕ, ◌≤◌, ◌<◌, ◌-◌}
-use mathlib.Core.List.{List}
-use mathlib.Core.Path.{◌≡◌}
+use Rattle.part.specs.Open.{Innermost}
 use Rattle.part.proofs.still_open.Goals as goal
 
 -- what holds from t on, and at t - 1, holds from t - 1 on
@@ -17,15 +14,17 @@ down ends top at t above here k from below = go (dec_le t k)
     go (no n) = let e : k ≡ t - 1 = omega arith in rw e here
 
 pub loop-t-init : goal.loop-t-init
-loop-t-init c = (le_refl _, λ k h l. absurd (lt_irrefl _ (lt_of_le_of_lt h l)))
+loop-t-init c = λ k h l. absurd (omega arith)
 
-pub loop-t-smaller : goal.loop-t-smaller
-loop-t-smaller c = omega arith
+pub returns-then-at-from : goal.returns-then-at-from
+returns-then-at-from c =
+    let t = c.loop-t.t in
+    let e : t - 1 + 1 ≡ t = omega (arith, c.loop-t-test.true) in
+    subst (λ (r : ℕ). Innermost c.args.ends.now c.args.top c.args.at r) (sym e)
+    (record { below = c.loop-t.auto.t; closed = c.loop-t.invariant; innermost = λ h. omega (arith, c.from.ensures, c.if-at-from.true) })
 
 pub loop-t-preserved : goal.loop-t-preserved
-loop-t-preserved c =
-    let a = c.args in
-    (omega arith, down a.ends.now a.top a.at c.loop-t.t c.loop-t.invariant.1 (rw c.wide.ensures.same at c.if-at-wide.false))
+loop-t-preserved c = down c.args.ends.now c.args.top c.args.at c.loop-t.t c.loop-t.invariant (omega (arith, c.from.ensures, c.if-at-from.false))
 
 pub returns : goal.returns
-returns c = record { below = c.loop-t.invariant.0; closed = c.loop-t.invariant.1; innermost = λ h. omega arith }
+returns c = record { below = omega arith; closed = λ k h. c.loop-t.invariant k (omega arith); innermost = λ h. absurd (omega arith) }

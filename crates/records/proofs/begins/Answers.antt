@@ -1,14 +1,11 @@
 -- `records::begins` meets its contract: the two tests are those of `begins_at`. Assumes nothing.
-use Prim.Native.Nat.{◌+◌, ◌*◌}
-use native.Mathlib.Omega.{arith}
+use borrow.Author.Tests.{le-ltb}
+use mathlib.Core.Path.{◌∙◌}
 use Rattle.records.proofs.Stack as K
 use Rattle.records.proofs.begins.Goals as goal
 
-pub returns-then-height-level : goal.returns-then-height-level
-returns-then-height-level c = K.begins_none _ _ _ _ _ c.if-height-level.true
+pub returns-then-level-height : goal.returns-then-level-height
+returns-then-level-height c = K.begins_some _ _ _ _ _ c.if-level-height.true
 
-pub overflow_cast-result : goal.overflow_cast-result
-overflow_cast-result c = omega (arith, c.type_inv.work (c.args.n + c.args.level * 2))
-
-pub returns : goal.returns
-returns c = K.begins_some _ _ _ _ _ c.if-height-level.false
+pub returns-else-level-height : goal.returns-else-level-height
+returns-else-level-height c = le-ltb _ _ c.if-level-height.false ∙ K.begins_none _ _ _ _ _ c.if-level-height.false

@@ -3,8 +3,7 @@
 use Rattle.search.proofs.Way.{ahead_first, ahead_next, way_next, way_stop, choose_none, choose_on, nearer, readable}
 use Rattle.search.specs.Way.{Linked}
 use Rattle.search.specs.Search.{way, way_to, choose, matching, child}
-use Rattle.words.specs.Answer.{place_found}
-use mathlib.Core.Option.{none, some}
+use Rattle.std.specs.Prelude.{None, Some}
 use mir.Facts.{to_z-of_z}
 use mir.Val.{to_z, of_z}
 use mir.Syntax.{w8}
@@ -46,7 +45,7 @@ module _ (s : Start) where
   side_at = to_z-of_z s.ranges.side
 
   child_at : child s.args.words.now s.args.from s.args.to s.args.direction s.args.position s.args.base s.args.side
-      ≡ choose (matching s.args.words.now s.args.position s.args.base (to_z w8 (of_z w8 s.args.side))) (lt_z (pos 0) (to_z w8 (of_z w8 s.args.direction))) none (way_to s.args.words.now s.args.from s.args.to)
+      ≡ choose (matching s.args.words.now s.args.position s.args.base (to_z w8 (of_z w8 s.args.side))) (lt_z (pos 0) (to_z w8 (of_z w8 s.args.direction))) None (way_to s.args.words.now s.args.from s.args.to)
   unfolding child
   child_at = rw (direction_at, side_at)
 
@@ -58,8 +57,8 @@ module _ (i : In-loop-index) where
   abbrev test₁ : ℕ → Bool
   test₁ = matching (w₁ i) i.args.position i.args.base (to_z w8 (of_z w8 i.args.side))
 
-  step_at : (n : ℕ) → n ≡ get_or (w₁ i) (a₁ i + 3) 0 → choose test₁ forward₁ none (way_to (w₁ i) i.args.from i.args.to) ≡ choose test₁ forward₁ (place_found i.loop-index.found) (a₁ i ∷ way (w₁ i) (f₁ i - 1) n i.args.to)
-  step_at n e = i.loop-index.invariant.2 ∙ ap (choose test₁ forward₁ (place_found i.loop-index.found)) (way_next (w₁ i) _ _ (linked_at i) (a₁ i) (f₁ i) n i.loop-index-test.true i.loop-index.invariant.1 e)
+  step_at : (n : ℕ) → n ≡ get_or (w₁ i) (a₁ i + 3) 0 → choose test₁ forward₁ None (way_to (w₁ i) i.args.from i.args.to) ≡ choose test₁ forward₁ i.loop-index.found (a₁ i ∷ way (w₁ i) (f₁ i - 1) n i.args.to)
+  step_at n e = i.loop-index.invariant.2 ∙ ap (choose test₁ forward₁ i.loop-index.found) (way_next (w₁ i) _ _ (linked_at i) (a₁ i) (f₁ i) n i.loop-index-test.true i.loop-index.invariant.1 e)
 
 pub loop-index-init : goal.loop-index-init
 loop-index-init c = (length c.args.words.now, ahead_first _ _ _ c.requires, refl)
@@ -78,19 +77,19 @@ bounds-words-index c = omega (arith, read_at (goal.at.bounds-words-index c).In-l
 
 pub loop-index-smaller : goal.loop-index-smaller
 loop-index-smaller c =
-    nearer (w₁ (goal.at.loop-index-smaller c).In-loop-index) _ _ (linked_at (goal.at.loop-index-smaller c).In-loop-index) (a₁ (goal.at.loop-index-smaller c).In-loop-index) (f₁ (goal.at.loop-index-smaller c).In-loop-index) c.wide-index.result c.loop-index-test.true c.loop-index.invariant.1 c.wide-index.ensures.same
+    nearer (w₁ (goal.at.loop-index-smaller c).In-loop-index) _ _ (linked_at (goal.at.loop-index-smaller c).In-loop-index) (a₁ (goal.at.loop-index-smaller c).In-loop-index) (f₁ (goal.at.loop-index-smaller c).In-loop-index) c.from-index.result c.loop-index-test.true c.loop-index.invariant.1 c.from-index.ensures
 
 pub loop-index-preserved : goal.loop-index-preserved
 loop-index-preserved c =
     let i = (goal.at.loop-index-preserved c).In-loop-index in
-    let n = c.wide-index.result in
-    let next = ahead_next (w₁ i) _ _ (linked_at i) (a₁ i) (f₁ i) n c.loop-index-test.true c.loop-index.invariant.1 c.wide-index.ensures.same in
-    let hit : c.matches.result ≡ true → (forward₁ i ≡ false) × (place_found c.if-matches.found ≡ some (a₁ i)) = λ e. search rules in
-    let miss : c.matches.result ≡ false → place_found c.if-matches.found ≡ place_found c.loop-index.found = λ e. search rules in
-    (f₁ i - 1, next, step_at i n c.wide-index.ensures.same ∙ choose_on (test₁ i) (forward₁ i) _ (a₁ i) (way (w₁ i) (f₁ i - 1) n c.args.to) (place_found c.if-matches.found) (λ e. hit (c.matches.ensures ∙ e)) (λ e. miss (c.matches.ensures ∙ e)))
+    let n = c.from-index.result in
+    let next = ahead_next (w₁ i) _ _ (linked_at i) (a₁ i) (f₁ i) n c.loop-index-test.true c.loop-index.invariant.1 c.from-index.ensures in
+    let hit : c.matches.result ≡ true → (forward₁ i ≡ false) × (c.if-matches.found ≡ Some (a₁ i)) = λ e. search rules in
+    let miss : c.matches.result ≡ false → c.if-matches.found ≡ c.loop-index.found = λ e. search rules in
+    (f₁ i - 1, next, step_at i n c.from-index.ensures ∙ choose_on (test₁ i) (forward₁ i) _ (a₁ i) (way (w₁ i) (f₁ i - 1) n c.args.to) c.if-matches.found (λ e. hit (c.matches.ensures ∙ e)) (λ e. miss (c.matches.ensures ∙ e)))
 
 pub returns : goal.returns
 returns c =
     let forward = lt_z (pos 0) (to_z w8 (of_z w8 c.args.direction)) in
     let test = matching c.args.words.now c.args.position c.args.base (to_z w8 (of_z w8 c.args.side)) in
-    sym (child_at (goal.at.returns c).Start ∙ c.loop-index.invariant.2 ∙ ap (choose test forward (place_found c.loop-index.found)) (way_stop c.args.words.now c.loop-index.invariant.0 c.loop-index.index c.args.to c.loop-index-test.false) ∙ choose_none test forward _)
+    sym (child_at (goal.at.returns c).Start ∙ c.loop-index.invariant.2 ∙ ap (choose test forward c.loop-index.found) (way_stop c.args.words.now c.loop-index.invariant.0 c.loop-index.index c.args.to c.loop-index-test.false) ∙ choose_none test forward _)

@@ -2,8 +2,7 @@
 -- the choice along the whole way. Assumes nothing.
 use Rattle.search.proofs.Way.{Ahead}
 use Rattle.search.specs.Search.{way, way_to, choose, matching}
-use Rattle.words.specs.Answer.{place_found}
-use mathlib.Core.Option.{none}
+use Rattle.std.specs.Prelude.{None}
 use lib.Signed.{lt_z}
 use lib.IntN.{pos}
 use lib.ListN.{length}
@@ -12,7 +11,7 @@ use mathlib.Core.Path.{◌≡◌}
 use Rattle.search.proofs.find_buffer_child.Given as goal
 
 abbrev pub invariant-loop-index : goal.invariant-loop-index
-invariant-loop-index l = (f : ℕ) × Ahead l.words l.to l.index f × (choose (matching l.words l.position l.base l.side) (lt_z (pos 0) l.direction) none (way_to l.words l.from l.to) ≡ choose (matching l.words l.position l.base l.side) (lt_z (pos 0) l.direction) (place_found l.found) (way l.words f l.index l.to))
+invariant-loop-index l = (f : ℕ) × Ahead l.words l.to l.index f × (choose (matching l.words l.position l.base l.side) (lt_z (pos 0) l.direction) None (way_to l.words l.from l.to) ≡ choose (matching l.words l.position l.base l.side) (lt_z (pos 0) l.direction) l.found (way l.words f l.index l.to))
 
 abbrev pub decreases-loop-index : goal.decreases-loop-index
 decreases-loop-index l = length l.words - l.index

@@ -48,10 +48,10 @@ bounds-words-at c = omega (arith, read_at (goal.at.bounds-words-at c).In-loop-at
 pub overflow_add-base64 : goal.overflow_add-base64
 overflow_add-base64 c = omega arith
 
-pub returns-then-base64-wide64-gt4294967295 : goal.returns-then-base64-wide64-gt4294967295
-returns-then-base64-wide64-gt4294967295 c =
-    let far : too_far (w₁ (goal.at.returns-then-base64-wide64-gt4294967295 c).In-loop-at) c.args.base (a₁ (goal.at.returns-then-base64-wide64-gt4294967295 c).In-loop-at) ≡ true = lt-ltb _ _ (rw c.wide64.ensures.same at c.if-base64-wide64-gt4294967295.true) in
-    sym (c.loop-at.invariant.2 ∙ ap (first_in (too_far (w₁ (goal.at.returns-then-base64-wide64-gt4294967295 c).In-loop-at) c.args.base)) (step_at (goal.at.returns-then-base64-wide64-gt4294967295 c).In-loop-at _ refl) ∙ in_hit _ _ _ far)
+pub returns-then-base64-from-gt4294967295 : goal.returns-then-base64-from-gt4294967295
+returns-then-base64-from-gt4294967295 c =
+    let far : too_far (w₁ (goal.at.returns-then-base64-from-gt4294967295 c).In-loop-at) c.args.base (a₁ (goal.at.returns-then-base64-from-gt4294967295 c).In-loop-at) ≡ true = lt-ltb _ _ (rw (c.from-base64.ensures, c.from.ensures) at c.if-base64-from-gt4294967295.true) in
+    sym (c.loop-at.invariant.2 ∙ ap (first_in (too_far (w₁ (goal.at.returns-then-base64-from-gt4294967295 c).In-loop-at) c.args.base)) (step_at (goal.at.returns-then-base64-from-gt4294967295 c).In-loop-at _ refl) ∙ in_hit _ _ _ far)
 
 pub overflow_add-at-in-loop-at : goal.overflow_add-at-in-loop-at
 overflow_add-at-in-loop-at c = omega (arith, read_at (goal.at.overflow_add-at-in-loop-at c).In-loop-at)
@@ -64,14 +64,14 @@ bounds-words-at-in-loop-at c = omega (arith, read_at (goal.at.bounds-words-at-in
 
 pub loop-at-smaller : goal.loop-at-smaller
 loop-at-smaller c =
-    nearer (w₁ (goal.at.loop-at-smaller c).In-loop-at) _ _ c.requires (a₁ (goal.at.loop-at-smaller c).In-loop-at) (f₁ (goal.at.loop-at-smaller c).In-loop-at) c.wide-at.result c.loop-at-test.true c.loop-at.invariant.1 c.wide-at.ensures.same
+    nearer (w₁ (goal.at.loop-at-smaller c).In-loop-at) _ _ c.requires (a₁ (goal.at.loop-at-smaller c).In-loop-at) (f₁ (goal.at.loop-at-smaller c).In-loop-at) c.from-at.result c.loop-at-test.true c.loop-at.invariant.1 c.from-at.ensures
 
 pub loop-at-preserved : goal.loop-at-preserved
 loop-at-preserved c =
-    let near : too_far (w₁ (goal.at.loop-at-preserved c).In-loop-at) c.args.base (a₁ (goal.at.loop-at-preserved c).In-loop-at) ≡ false = le-ltb _ _ (rw c.wide64.ensures.same at c.if-base64-wide64-gt4294967295.false) in (
+    let near : too_far (w₁ (goal.at.loop-at-preserved c).In-loop-at) c.args.base (a₁ (goal.at.loop-at-preserved c).In-loop-at) ≡ false = le-ltb _ _ (rw (c.from-base64.ensures, c.from.ensures) at c.if-base64-from-gt4294967295.false) in (
       f₁ (goal.at.loop-at-preserved c).In-loop-at - 1,
-      ahead_next (w₁ (goal.at.loop-at-preserved c).In-loop-at) _ _ c.requires (a₁ (goal.at.loop-at-preserved c).In-loop-at) (f₁ (goal.at.loop-at-preserved c).In-loop-at) c.wide-at.result c.loop-at-test.true c.loop-at.invariant.1 c.wide-at.ensures.same,
-      c.loop-at.invariant.2 ∙ ap (first_in (too_far (w₁ (goal.at.loop-at-preserved c).In-loop-at) c.args.base)) (step_at (goal.at.loop-at-preserved c).In-loop-at _ c.wide-at.ensures.same) ∙ in_miss _ _ _ near,
+      ahead_next (w₁ (goal.at.loop-at-preserved c).In-loop-at) _ _ c.requires (a₁ (goal.at.loop-at-preserved c).In-loop-at) (f₁ (goal.at.loop-at-preserved c).In-loop-at) c.from-at.result c.loop-at-test.true c.loop-at.invariant.1 c.from-at.ensures,
+      c.loop-at.invariant.2 ∙ ap (first_in (too_far (w₁ (goal.at.loop-at-preserved c).In-loop-at) c.args.base)) (step_at (goal.at.loop-at-preserved c).In-loop-at _ c.from-at.ensures) ∙ in_miss _ _ _ near,
     )
 
 pub returns : goal.returns

@@ -40,13 +40,13 @@ bounds-words-at c = omega (arith, read_at (goal.at.bounds-words-at c).In-loop-at
 
 pub loop-at-smaller : goal.loop-at-smaller
 loop-at-smaller c =
-    nearer (w₁ (goal.at.loop-at-smaller c).In-loop-at) _ _ (linked_at (goal.at.loop-at-smaller c).In-loop-at) (a₁ (goal.at.loop-at-smaller c).In-loop-at) (f₁ (goal.at.loop-at-smaller c).In-loop-at) c.wide-at.result c.loop-at-test.true c.loop-at.invariant.1 c.wide-at.ensures.same
+    nearer (w₁ (goal.at.loop-at-smaller c).In-loop-at) _ _ (linked_at (goal.at.loop-at-smaller c).In-loop-at) (a₁ (goal.at.loop-at-smaller c).In-loop-at) (f₁ (goal.at.loop-at-smaller c).In-loop-at) c.from-at.result c.loop-at-test.true c.loop-at.invariant.1 c.from-at.ensures
 
 pub loop-at-preserved : goal.loop-at-preserved
 loop-at-preserved c = (
   f₁ (goal.at.loop-at-preserved c).In-loop-at - 1,
-  ahead_next (w₁ (goal.at.loop-at-preserved c).In-loop-at) _ _ (linked_at (goal.at.loop-at-preserved c).In-loop-at) (a₁ (goal.at.loop-at-preserved c).In-loop-at) (f₁ (goal.at.loop-at-preserved c).In-loop-at) c.wide-at.result c.loop-at-test.true c.loop-at.invariant.1 c.wide-at.ensures.same,
-  c.loop-at.invariant.2 ∙ meets_next (w₁ (goal.at.loop-at-preserved c).In-loop-at) _ _ (linked_at (goal.at.loop-at-preserved c).In-loop-at) (a₁ (goal.at.loop-at-preserved c).In-loop-at) (f₁ (goal.at.loop-at-preserved c).In-loop-at) c.wide-at.result c.loop-at-test.true c.loop-at.invariant.1 c.wide-at.ensures.same,
+  ahead_next (w₁ (goal.at.loop-at-preserved c).In-loop-at) _ _ (linked_at (goal.at.loop-at-preserved c).In-loop-at) (a₁ (goal.at.loop-at-preserved c).In-loop-at) (f₁ (goal.at.loop-at-preserved c).In-loop-at) c.from-at.result c.loop-at-test.true c.loop-at.invariant.1 c.from-at.ensures,
+  c.loop-at.invariant.2 ∙ meets_next (w₁ (goal.at.loop-at-preserved c).In-loop-at) _ _ (linked_at (goal.at.loop-at-preserved c).In-loop-at) (a₁ (goal.at.loop-at-preserved c).In-loop-at) (f₁ (goal.at.loop-at-preserved c).In-loop-at) c.from-at.result c.loop-at-test.true c.loop-at.invariant.1 c.from-at.ensures,
 )
 
 pub returns : goal.returns

@@ -30,12 +30,11 @@ module _ (i : In-loop-i) where
   room_at = omega (arith, turn_at, i.requires.fits)
 
   same_at : length i.loop-i.out ≡ length i.args.out.now
-  same_at = done_length _ _ cut₁ _ _ k₁ i.loop-i.invariant.1 (omega (arith, room_at))
+  same_at = done_length _ _ cut₁ _ _ k₁ i.loop-i.invariant (omega (arith, room_at))
 
 pub loop-i-init : goal.loop-i-init
 loop-i-init c =
-    let a = c.args in
-    (omega arith, done_none a.from a.base a.cut.now a.out.now)
+    done_none c.args.from c.args.base c.args.cut.now c.args.out.now
 
 pub overflow_sub-cut : goal.overflow_sub-cut
 overflow_sub-cut c = start_at (goal.at.overflow_sub-cut c).In-loop-i
@@ -53,17 +52,15 @@ put_record-requires c =
 
 pub loop-i-preserved : goal.loop-i-preserved
 loop-i-preserved c =
-    let a = c.args in (
-      omega (arith, turn_at (goal.at.loop-i-preserved c).In-loop-i),
-      done_next a.from a.base (cut₁ (goal.at.loop-i-preserved c).In-loop-i) a.out.now c.loop-i.out (k₁ (goal.at.loop-i-preserved c).In-loop-i) c.loop-i.invariant.1 c.put_record.new.out (omega (arith, turn_at (goal.at.loop-i-preserved c).In-loop-i)) c.put_record.ensures,
-    )
+    let a = c.args in
+    done_next a.from a.base a.cut.now a.out.now c.loop-i.out c.loop-i.i c.loop-i.invariant c.put_record.new.out (omega (arith, c.loop-i-test.true)) c.put_record.ensures
 
 pub shape_of-out : goal.shape_of-out
 shape_of-out c =
     let a = c.args in
-    done_length a.from a.base a.cut.now a.out.now c.loop-i.out c.loop-i.i c.loop-i.invariant.1 (omega (arith, c.requires.fits, c.loop-i.invariant.0))
+    done_length a.from a.base a.cut.now a.out.now c.loop-i.out c.loop-i.i c.loop-i.invariant (omega (arith, c.requires.fits, c.loop-i.auto.i-end))
 
 pub returns : goal.returns
 returns c =
     let a = c.args in
-    done_all a.from a.base a.cut.now a.out.now c.loop-i.out c.loop-i.i c.loop-i.invariant.1 c.loop-i-test.false
+    done_all a.from a.base a.cut.now a.out.now c.loop-i.out c.loop-i.i c.loop-i.invariant c.loop-i-test.false

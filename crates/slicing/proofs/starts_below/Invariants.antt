@@ -2,7 +2,8 @@
 use mathlib.Core.Bool.{Bool}
 use mathlib.Core.Path.{◌≡◌}
 use mathlib.Core.List.{List}
-use Prim.Native.Nat.{ℕ, ◌≤◌, ◌-◌}
+use Prim.Native.Nat.{ℕ, ◌-◌, ◌/◌}
+use lib.ListN.{length}
 use lib.Dec.{ltb}
 use Rattle.words.specs.Words.{start_of}
 use Rattle.words.specs.First.{first_from}
@@ -13,7 +14,4 @@ abbrev pub below : List ℕ → ℕ → ℕ → Bool
 below cut base i = ltb (start_of cut i) base
 
 abbrev pub invariant-loop-i : goal.invariant-loop-i
-invariant-loop-i l = (l.i ≤ l.records) × (first_from (below l.cut l.base) 0 l.records ≡ first_from (below l.cut l.base) l.i (l.records - l.i))
-
-abbrev pub decreases-loop-i : goal.decreases-loop-i
-decreases-loop-i l = l.records - l.i
+invariant-loop-i l = first_from (below l.cut l.base) 0 (length l.cut / 4) ≡ first_from (below l.cut l.base) l.i (length l.cut / 4 - l.i)

@@ -1,12 +1,6 @@
--- `store::copy_words` meets its contract: the words copied so far are pasted into the output. Assumes nothing.
-use lib.Seq.{paste}
-use lib.ListN.{drop}
-use Prim.Native.Nat.{◌-◌, ◌≤◌}
-use mathlib.Core.Path.{◌≡◌}
+-- `store::copy_words` meets its contract: each word before the index is copied. Assumes nothing.
+use Rattle.std.proofs.Common.{◌≡◌, ℕ, ◌<◌, get_or}
 use Rattle.store.proofs.copy_words.Given as goal
 
 abbrev pub invariant-loop-i : goal.invariant-loop-i
-invariant-loop-i l = (l.i ≤ l.count) × (l.out ≡ paste l.initial.out l.at (drop l.from l.work) l.i)
-
-abbrev pub decreases-loop-i : goal.decreases-loop-i
-decreases-loop-i l = l.count - l.i
+invariant-loop-i l = (k : ℕ) → k < l.i → get_or l.out k 0 ≡ get_or l.words k 0

@@ -16,7 +16,7 @@ module _ (e : Else-range_broken) where
   count_clear : count_test e.args.work.now e.args.g.n e.args.i (cell_of e.args.k) ≡ false
   count_clear = sym e.count_broken.ensures ∙ e.if-count_broken.false
 
-  range_clear : range_test e.args.i e.args.k.position e.args.k.len e.args.d.after e.args.d.within e.args.d.base ≡ false
+  range_clear : range_test e.args.i e.args.k.position e.args.k.length e.args.d.after e.args.d.within e.args.d.base ≡ false
   range_clear = sym e.range_broken.ensures ∙ e.if-range_broken.false
 
 pub returns-then-own_broken : goal.returns-then-own_broken

@@ -9,9 +9,9 @@ returns-then-x-eq0 c = link_none c.args.n c.args.c c.args.x c.args.x refl c.if-x
 pub returns-then-to-c : goal.returns-then-to-c
 returns-then-to-c c =
     let a = c.args in
-    link_back a.n a.c a.x c.index-to.result c.index-to.ensures.same c.if-x-eq0.false c.if-to-c.true
+    link_back a.n a.c a.x a.x refl c.if-x-eq0.false c.if-to-c.true
 
 pub returns : goal.returns
 returns c =
     let a = c.args in
-    link_far a.n a.c a.x c.index-to.result c.index-to.ensures.same c.if-x-eq0.false c.if-to-c.false
+    link_far a.n a.c a.x a.x refl c.if-x-eq0.false c.if-to-c.false

@@ -7,6 +7,3 @@ use Rattle.cells.proofs.linking.chain_lengths.Given as goal
 
 abbrev pub invariant-loop-c : goal.invariant-loop-c
 invariant-loop-c l = (l.c ≤ l.n) × (length l.work ≡ length l.initial.work) × Tail l.cells l.n l.c l.work
-
-abbrev pub decreases-loop-c : goal.decreases-loop-c
-decreases-loop-c l = l.c

@@ -13,16 +13,16 @@ pub returns-then-to-c : goal.returns-then-to-c
 unfolding followed
 returns-then-to-c c =
     let a = c.args in
-    sym (ap (λ b. cond b 0 (cond (ltb a.n a.x) 0 (get_or a.work.now (a.x - 1) 0))) (le-leb a.x a.c (omega (arith, c.index-to.ensures.same, c.if-to-c.true))))
+    sym (ap (λ b. cond b 0 (cond (ltb a.n a.x) 0 (get_or a.work.now (a.x - 1) 0))) (le-leb a.x a.c (omega (arith, c.if-to-c.true))))
 
 pub returns-then-n-to : goal.returns-then-n-to
 unfolding followed
 returns-then-n-to c =
     let a = c.args in
-    simp (lt-leb a.x a.c (omega (arith, c.index-to.ensures.same, c.if-to-c.false)), lt-ltb a.n a.x (omega (arith, c.index-to.ensures.same, c.if-n-to.true)))
+    simp (lt-leb a.x a.c (omega (arith, c.if-to-c.false)), lt-ltb a.n a.x (omega (arith, c.if-n-to.true)))
 
 pub returns : goal.returns
 unfolding followed
 returns c =
     let a = c.args in
-    simp (lt-leb a.x a.c (omega (arith, c.index-to.ensures.same, c.if-to-c.false)), le-ltb a.n a.x (omega (arith, c.index-to.ensures.same, c.if-n-to.false)), c.index-to.ensures.same)
+    simp (lt-leb a.x a.c (omega (arith, c.if-to-c.false)), le-ltb a.n a.x (omega (arith, c.if-n-to.false)))

@@ -1,5 +1,4 @@
 -- `cells::linking::lower` meets its contract: each return is one case of the definition. Assumes nothing.
-use mathlib.Core.Path.{◌∙◌}
 use native.Mathlib.Omega.{arith}
 use Rattle.cells.proofs.Links.{low_none, low_under, low_here, low_keep}
 use Rattle.cells.proofs.linking.lower.Goals as goal
@@ -9,17 +8,17 @@ returns-then-s-eq0 c =
     let a = c.args in
     low_none a.work.now a.n a.s.top a.s.limit a.x c.if-s-eq0.true
 
-pub returns-then-index-m : goal.returns-then-index-m
-returns-then-index-m c =
+pub returns-then-x-m : goal.returns-then-x-m
+returns-then-x-m c =
     let a = c.args in
-    low_under a.work.now a.n a.s.top a.s.limit a.x c.if-s-eq0.false (omega (arith, c.index-m.ensures.same, c.index.ensures.same, c.if-index-m.true))
+    low_under a.work.now a.n a.s.top a.s.limit a.x c.if-s-eq0.false (omega (arith, c.if-x-m.true))
 
 pub returns-then-m-s : goal.returns-then-m-s
 returns-then-m-s c =
     let a = c.args in
-    c.index-m.ensures.same ∙ low_here a.work.now a.n a.s.top a.s.limit a.x c.if-s-eq0.false (omega (arith, c.index-m.ensures.same, c.index.ensures.same, c.if-index-m.false)) (omega (arith, c.index-m.ensures.same, c.if-m-s.true))
+    low_here a.work.now a.n a.s.top a.s.limit a.x c.if-s-eq0.false (omega (arith, c.if-x-m.false)) (omega (arith, c.if-m-s.true))
 
 pub returns : goal.returns
 returns c =
     let a = c.args in
-    low_keep a.work.now a.n a.s.top a.s.limit a.x c.if-s-eq0.false (omega (arith, c.index-m.ensures.same, c.index.ensures.same, c.if-index-m.false)) (omega (arith, c.index-m.ensures.same, c.if-m-s.false))
+    low_keep a.work.now a.n a.s.top a.s.limit a.x c.if-s-eq0.false (omega (arith, c.if-x-m.false)) (omega (arith, c.if-m-s.false))

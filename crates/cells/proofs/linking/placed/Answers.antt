@@ -1,6 +1,4 @@
 -- `cells::linking::placed` meets its contract: each return is one case of the definition. Assumes nothing.
-use mathlib.Core.Path.{ap, ◌∙◌}
-use lib.Dec.{eqb}
 use Rattle.cells.proofs.Testing.{place_limit, place_none, place_named}
 use Rattle.cells.proofs.linking.placed.Goals as goal
 
@@ -17,4 +15,4 @@ returns-then-s-eq0 c =
 pub returns : goal.returns
 returns c =
     let a = c.args in
-    ap (λ y. eqb y a.c) c.index.ensures.same ∙ place_named a.work.now a.n a.s.top a.s.limit a.c c.if-c-s.false c.if-s-eq0.false
+    place_named a.work.now a.n a.s.top a.s.limit a.c c.if-c-s.false c.if-s-eq0.false

@@ -14,6 +14,6 @@ returns c =
       t₂ = c.name_if-later.result.top;
       limit₂ = c.name_if-later.result.limit;
       next_put = c.name_if-later.ensures;
-      first_put = subst (λ z. Put c.name_if-later.new.work c.name_if.new.work a.n c.name_if-later.result.top c.name_if-later.result.limit c.name_if.result.top c.name_if.result.limit z 0 (cond (eqb a.i 0) 4294967295 a.k.len) (a.d.base + a.k.position)) c.first_child.ensures
+      first_put = subst (λ z. Put c.name_if-later.new.work c.name_if.new.work a.n c.name_if-later.result.top c.name_if-later.result.limit c.name_if.result.top c.name_if.result.limit z 0 (cond (eqb a.i 0) 4294967295 a.k.length) (a.d.base + a.k.position)) c.first_child.ensures
           (subst (λ z. Put c.name_if-later.new.work c.name_if.new.work a.n c.name_if-later.result.top c.name_if-later.result.limit c.name_if.result.top c.name_if.result.limit c.first_child.result 0 z (a.d.base + a.k.position)) c.inner_width.ensures c.name_if.ensures);
     }

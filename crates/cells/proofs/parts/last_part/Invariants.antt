@@ -5,6 +5,3 @@ use Rattle.cells.proofs.parts.last_part.Given as goal
 
 abbrev pub invariant-loop-last : goal.invariant-loop-last
 invariant-loop-last l = (l.last ≤ l.n) × Bare l.cells l.last
-
-abbrev pub decreases-loop-last : goal.decreases-loop-last
-decreases-loop-last l = l.last

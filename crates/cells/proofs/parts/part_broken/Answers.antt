@@ -1,5 +1,5 @@
 -- `cells::parts::part_broken` meets its contract: each return is one case of the definition. Assumes nothing.
-use mathlib.Core.Path.{◌≡◌, sym, ap, ap₂, ◌∙◌}
+use mathlib.Core.Path.{◌≡◌, ap, ◌∙◌}
 use mathlib.Core.Bool.{not}
 use mathlib.Core.List.{List}
 use Prim.Native.Nat.{ℕ, ◌+◌, ◌-◌}
@@ -15,23 +15,14 @@ use Rattle.cells.proofs.parts.part_broken.Goals as goal
 
 -- the part lies in the words
 module _ (e : Else-words-end) where
-  abbrev ws₁ : List ℕ
-  ws₁ = e.args.words.now
+  abbrev part₁ : List ℕ
+  part₁ = take (e.args.k.first + e.args.k.count - e.args.k.first) (drop e.args.k.first e.args.words.now)
 
-  abbrev first₁ : ℕ
-  first₁ = e.index-first.result
+  count_is : e.args.k.first + e.args.k.count - e.args.k.first ≡ e.args.k.count
+  count_is = omega arith
 
-  abbrev end₁ : ℕ
-  end₁ = first₁ + e.index.result
-
-  first_is : first₁ ≡ e.args.k.first
-  first_is = e.index-first.ensures.same
-
-  count_is : e.index.result ≡ e.args.k.count
-  count_is = e.index.ensures.same
-
-  long_at : length (take (end₁ - first₁) (drop first₁ ws₁)) ≡ end₁ - first₁
-  long_at = run_length ws₁ first₁ end₁ (omega arith) e.if-words-end.false
+  long_at : length part₁ ≡ e.args.k.count
+  long_at = run_length e.args.words.now e.args.k.first (e.args.k.first + e.args.k.count) (omega arith) e.if-words-end.false ∙ count_is
 
 pub returns-then-k-ne2 : goal.returns-then-k-ne2
 returns-then-k-ne2 c =
@@ -39,22 +30,24 @@ returns-then-k-ne2 c =
 
 pub returns-then-first-w : goal.returns-then-first-w
 returns-then-first-w c =
-    let a = c.args in record { value = part_apart a.types a.words.now a.w (cell_of a.k) c.if-k-ne2.false (λ e. c.if-first-w.true (c.index-first.ensures.same ∙ e)); front = front_same a.at a.work.now }
+    let a = c.args in record { value = part_apart a.types a.words.now a.w (cell_of a.k) c.if-k-ne2.false c.if-first-w.true; front = front_same a.at a.work.now }
 
 pub returns-then-words-end : goal.returns-then-words-end
 returns-then-words-end c =
-    let a = c.args in record { value = part_long a.types a.words.now a.w (cell_of a.k) c.if-k-ne2.false (sym c.index-first.ensures.same ∙ c.if-first-w.false) (omega (arith, c.index-first.ensures.same, c.index.ensures.same, c.if-words-end.true)); front = front_same a.at a.work.now }
+    let a = c.args in record { value = part_long a.types a.words.now a.w (cell_of a.k) c.if-k-ne2.false c.if-first-w.false c.if-words-end.true; front = front_same a.at a.work.now }
 
 pub part_kept-requires : goal.part_kept-requires
 part_kept-requires c =
-    record { room = record { for_indices = omega (arith, long_at (goal.at.part_kept-requires c).Else-words-end, c.if-words-end.false, c.requires.room.for_indices); for_ends = omega (arith, long_at (goal.at.part_kept-requires c).Else-words-end, c.if-words-end.false, c.requires.room.for_ends) }; types_bound = c.requires.types_bound }
+    let long = long_at (goal.at.part_kept-requires c).Else-words-end in
+    record { room = record { for_indices = omega (arith, long, c.if-words-end.false, c.requires.room.for_indices); for_ends = omega (arith, long, c.if-words-end.false, c.requires.room.for_ends) }; types_bound = c.requires.types_bound }
 
 pub returns : goal.returns
 returns c =
     let a = c.args in
-    let cut : end₁ (goal.at.returns c).Else-words-end - first₁ (goal.at.returns c).Else-words-end ≡ a.k.count = omega (arith, count_is (goal.at.returns c).Else-words-end) in
-    let part : take (end₁ (goal.at.returns c).Else-words-end - first₁ (goal.at.returns c).Else-words-end) (drop (first₁ (goal.at.returns c).Else-words-end) (ws₁ (goal.at.returns c).Else-words-end)) ≡ take a.k.count (drop a.k.first (ws₁ (goal.at.returns c).Else-words-end)) = ap₂ (λ m d. take m (drop d (ws₁ (goal.at.returns c).Else-words-end))) cut (first_is (goal.at.returns c).Else-words-end) in record {
-      value = ap not (c.part_kept.ensures.value ∙ ap (part_kept a.types a.k.len) part)
-          ∙ part_rules a.types (ws₁ (goal.at.returns c).Else-words-end) a.w (cell_of a.k) c.if-k-ne2.false (sym (first_is (goal.at.returns c).Else-words-end) ∙ c.if-first-w.false) (omega (arith, first_is (goal.at.returns c).Else-words-end, count_is (goal.at.returns c).Else-words-end, c.if-words-end.false));
+    let e = (goal.at.returns c).Else-words-end in
+    let part : part₁ e ≡ take a.k.count (drop a.k.first a.words.now) = ap (λ (m : ℕ). take m (drop a.k.first a.words.now)) (count_is e) in
+    record {
+      value = ap not (c.part_kept.ensures.value ∙ ap (part_kept a.types a.k.length) part)
+          ∙ part_rules a.types a.words.now a.w (cell_of a.k) c.if-k-ne2.false c.if-first-w.false c.if-words-end.false;
       front = c.part_kept.ensures.front;
     }

@@ -1,11 +1,6 @@
 -- `cells::parts::part_kept` meets its contract: each turn is one of the loop over lists. Assumes nothing.
-use Prim.Native.Nat.{◌-◌, ◌/◌}
-use lib.ListN.{length}
 use Rattle.cells.proofs.PartLoop.{Going}
 use Rattle.cells.proofs.parts.part_kept.Given as goal
 
 abbrev pub invariant-loop-i : goal.invariant-loop-i
 invariant-loop-i l = Going l.types l.len l.part l.at l.initial.ends l.initial.work l.ends l.work l.s l.low l.i
-
-abbrev pub decreases-loop-i : goal.decreases-loop-i
-decreases-loop-i l = length l.part / 4 - l.i

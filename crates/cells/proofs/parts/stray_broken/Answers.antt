@@ -1,9 +1,4 @@
 -- `cells::parts::stray_broken` meets its contract: each return is one case of the definition. Assumes nothing.
-use mathlib.Core.Path.{◌≡◌, ap, ◌∙◌}
-use mathlib.Core.Bool.{not}
-use Prim.Native.Nat.{◌+◌}
-use native.Mathlib.Omega.{arith}
-use lib.Dec.{eqb}
 use Rattle.cells.specs.Read.{cell_of}
 use Rattle.cells.proofs.Testing.{stray_before, stray_part, stray_tree, stray_top}
 use Rattle.cells.proofs.parts.stray_broken.Goals as goal
@@ -16,8 +11,7 @@ returns-then-i-g c =
 pub returns-then-k-eq2 : goal.returns-then-k-eq2
 returns-then-k-eq2 c =
     let a = c.args in
-    let e : c.index.result + c.index-then-k-eq2.result ≡ a.k.first + a.k.count = omega (arith, c.index.ensures.same, c.index-then-k-eq2.ensures.same) in
-    ap (λ y. not (eqb y a.size)) e ∙ stray_part a.size a.i a.g.last (cell_of a.k) c.if-i-g.false c.if-k-eq2.true
+    stray_part a.size a.i a.g.last (cell_of a.k) c.if-i-g.false c.if-k-eq2.true
 
 pub returns-then-i-ne0 : goal.returns-then-i-ne0
 returns-then-i-ne0 c =

@@ -1,15 +1,11 @@
 -- `cells::parts::words_end` meets its contract: each return is one side of the test. Assumes nothing.
-use mathlib.Core.Path.{◌≡◌, ◌∙◌}
-use Prim.Native.Nat.{◌+◌}
-use native.Mathlib.Omega.{arith}
 use Rattle.cells.specs.Read.{cell_of}
 use Rattle.cells.proofs.Testing.{end_at_part, end_at_tree}
 use Rattle.cells.proofs.parts.words_end.Goals as goal
 
 pub returns-then-k-eq2 : goal.returns-then-k-eq2
 returns-then-k-eq2 c = let a = c.args in
-    let sum : c.index.result + c.index-then-k-eq2.result ≡ a.k.first + a.k.count = omega (arith, c.index.ensures.same, c.index-then-k-eq2.ensures.same) in
-    sum ∙ end_at_part a.w (cell_of a.k) c.if-k-eq2.true
+    end_at_part a.w (cell_of a.k) c.if-k-eq2.true
 
 pub returns : goal.returns
 returns c =

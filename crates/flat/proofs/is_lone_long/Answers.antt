@@ -1,9 +1,0 @@
--- `flat::is_lone_long` meets its contract: the answers of its tests. Assumes nothing.
-use borrow.Author.Tests.{eq-eqb, ne_eqb}
-use Rattle.flat.proofs.is_lone_long.Goals as goal
-
-pub returns-then-count-eq1 : goal.returns-then-count-eq1
-returns-then-count-eq1 c = rw (eq-eqb _ _ c.if-count-eq1.true)
-
-pub returns : goal.returns
-returns c = rw (ne_eqb _ _ c.if-count-eq1.false)

@@ -1,6 +1,0 @@
--- `hulwyth::rooms::cells` meets its contract: an array of so many zeros is so long. Assumes nothing.
-use Rattle.hulwyth.proofs.Counted.{counted}
-use Rattle.hulwyth.proofs.rooms.cells.Goals as goal
-
-pub returns : goal.returns
-returns c = counted 57344
