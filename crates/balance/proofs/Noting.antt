@@ -11,7 +11,6 @@ use lib.ListN.{length, get_or, set, length-set}
 use lib.Seq.{get_or-set_same, get_or-set_other}
 use Rattle.tree.specs.Cells.{cell_kind, cell_position, cell_first, cell_next}
 use Rattle.tree.specs.Trees.{Trees}
-use Rattle.store.specs.Store.{Same}
 use Rattle.store.proofs.Types.{not_part}
 use Rattle.rules.specs.Calls.{handed_in}
 use Rattle.balance.specs.Steps.{bases, onwards, Given, noted, links_noted, Linked, Based}
@@ -30,12 +29,6 @@ noted_length : (held : List ℕ) (x q : ℕ) → length (noted held x q) ≡ len
 noted_length held zero q = ap length (noted_none held 0 q refl)
 noted_length held (suc x) q = ap length (noted_some held (suc x) q (λ e. omega arith)) ∙ length-set held (suc x - 1) q
 
--- a word behind the noted ones stays
-noted_behind : (held : List ℕ) (x q n j : ℕ) → x ≤ n → n ≤ j → get_or (noted held x q) j 0 ≡ get_or held j 0
-noted_behind held zero q n j a b = ap (λ (l : List ℕ). get_or l j 0) (noted_none held 0 q refl)
-noted_behind held (suc x) q n j a b =
-    ap (λ (l : List ℕ). get_or l j 0) (noted_some held (suc x) q (λ e. omega arith)) ∙ get_or-set_other held (suc x - 1) j q 0 (λ e. omega arith)
-
 -- what a part's cell notes, and what a tree's does
 links_part : (cs held : List ℕ) (i : ℕ) → cell_kind cs i ≡ 2 → links_noted cs held i ≡ noted held (cell_next cs i) (get_or held i 0)
 unfolding links_noted
@@ -45,15 +38,6 @@ links_tree : (cs held : List ℕ) (i : ℕ) → (cell_kind cs i ≡ 2 → ⊥)
     → links_noted cs held i ≡ noted (noted held (cell_next cs i) (get_or held i 0)) (cell_first cs i) (get_or held i 0 + cell_position cs i)
 unfolding links_noted
 links_tree cs held i e = rw (ne_eqb (cell_kind cs i) 2 e)
-
--- the words after a cell has noted what it names
-pub links_part_done : (cs held held' : List ℕ) (i : ℕ) → cell_kind cs i ≡ 2 → held' ≡ noted held (cell_next cs i) (get_or held i 0) → held' ≡ links_noted cs held i
-links_part_done cs held held' i two e = e ∙ sym (links_part cs held i two)
-
-pub links_tree_done : (cs held held₁ held₂ : List ℕ) (i : ℕ) → (cell_kind cs i ≡ 2 → ⊥) → held₁ ≡ noted held (cell_next cs i) (get_or held i 0)
-    → held₂ ≡ noted held₁ (cell_first cs i) (get_or held i 0 + cell_position cs i) → held₂ ≡ links_noted cs held i
-links_tree_done cs held held₁ held₂ i other e f =
-    f ∙ ap (λ (l : List ℕ). noted l (cell_first cs i) (get_or held i 0 + cell_position cs i)) e ∙ sym (links_tree cs held i other)
 
 -- a number v that is right for the cell x, by the list bs
 module _ (bs : List ℕ) where
@@ -104,7 +88,6 @@ module _ {cs ws : List ℕ} {n : ℕ} (g : Given cs ws n) where
     pub most : i ≤ n
     pub size : length held ≡ length held₀
     pub room : n ≤ length held₀
-    pub behind : (j : ℕ) → n ≤ j → get_or held j 0 ≡ get_or held₀ j 0
     pub first : get_or held 0 0 ≡ get_or bs 0 0
     pub links : (j k : ℕ) → j < i → k < n → Named cs ws bs us n j k → get_or held k 0 ≡ get_or bs k 0
 
@@ -113,7 +96,6 @@ module _ {cs ws : List ℕ} {n : ℕ} (g : Given cs ws n) where
     most = omega arith;
     size = refl;
     room = omega (arith, length-set work 0 0);
-    behind = λ j l. refl;
     first = get_or-set_same work 0 0 0 (omega (arith, h.count)) ∙ sym first_base;
     links = λ j k l m e. absurd (omega arith);
   }
@@ -158,7 +140,7 @@ module _ {cs ws : List ℕ} {n : ℕ} (g : Given cs ws n) where
       abbrev v : ℕ
       v = get_or held i 0
 
-      module _ (next-right : Right bs x v) (next_in : x ≤ n) where
+      module _ (next-right : Right bs x v) where
         abbrev once : List ℕ
         once = noted held x v
 
@@ -171,7 +153,6 @@ module _ {cs ws : List ℕ} {n : ℕ} (g : Given cs ws n) where
           most = omega arith;
           size = noted_length held x v ∙ s.size;
           room = s.room;
-          behind = λ j m. noted_behind held x v n j next_in m ∙ s.behind j m;
           first = once_at 0 (omega (arith, h.count)) s.first;
           links = λ j k m o e. go j k m o e (dec_lt j i);
         }
@@ -186,7 +167,7 @@ module _ {cs ws : List ℕ} {n : ℕ} (g : Given cs ws n) where
                 absurd (e.0 (ap (λ (y : ℕ). cell_kind cs y) z ∙ two))
 
         -- a tree its first child too
-        module _ (y u : ℕ) (y-is : y ≡ cell_first cs i) (first-right : Right bs y u) (first_in : y ≤ n) where
+        module _ (y u : ℕ) (y-is : y ≡ cell_first cs i) (first-right : Right bs y u) where
           abbrev twice : List ℕ
           twice = noted once y u
 
@@ -198,7 +179,6 @@ module _ {cs ws : List ℕ} {n : ℕ} (g : Given cs ws n) where
             most = omega arith;
             size = noted_length once y u ∙ noted_length held x v ∙ s.size;
             room = s.room;
-            behind = λ j m. noted_behind once y u n j first_in m ∙ noted_behind held x v n j next_in m ∙ s.behind j m;
             first = twice_at 0 (omega (arith, h.count)) (once_at 0 (omega (arith, h.count)) s.first);
             links = λ j k m o e. go j k m o e (dec_lt j i);
           }
@@ -222,22 +202,14 @@ module _ {cs ws : List ℕ} {n : ℕ} (g : Given cs ws n) where
           tree_turn t =
               let other : cell_kind cs i ≡ 2 → ⊥ = λ two. not_part t.type (sym t.kind_is ∙ two) in
               rw (e, links_tree cs held i other)
-              (tree_next (leads_right i (get_or bs i 0) t.rest x v t.next_is own_base) (leads_in i (get_or bs i 0) t.rest x t.next_is)
+              (tree_next (leads_right i (get_or bs i 0) t.rest x v t.next_is own_base)
               (cell_first cs i) (v + cell_position cs i) refl
-              (leads_right i t.start t.kids (cell_first cs i) (v + cell_position cs i) t.first_is (omega (arith, own_base, t.start_is)))
-              (leads_in i t.start t.kids (cell_first cs i) t.first_is))
+              (leads_right i t.start t.kids (cell_first cs i) (v + cell_position cs i) t.first_is (omega (arith, own_base, t.start_is))))
 
           part_turn : PartAt cs ws bs us n i → Noting held₀ held' (i + 1)
           part_turn t =
               rw (e, links_part cs held i t.kind_is)
-              (part_next (leads_right i (get_or bs i 0) t.rest x v t.next_is own_base) (leads_in i (get_or bs i 0) t.rest x t.next_is) t.kind_is)
+              (part_next (leads_right i (get_or bs i 0) t.rest x v t.next_is own_base) t.kind_is)
 
     pub noting_end : n ≤ i → Based held n (handed_in cs ws)
     noting_end l k m = known k (omega arith) m
-
-  pub noting_kept : (work : List ℕ) {held : List ℕ} {i : ℕ} → Noting (set work 0 0) held i → Same work held 0 0 n
-  noting_kept work s = record {
-    size = s.size ∙ length-set work 0 0;
-    below = λ j a b. absurd (omega arith);
-    above = λ j a. s.behind j a ∙ get_or-set_other work 0 j 0 0 (λ e. omega (arith, h.count));
-  }

@@ -14,7 +14,7 @@ use Rattle.store.specs.Store.{Holds, Staged, Same, Readable, PushedTree, PushedP
 use Rattle.store.proofs.Frame.{same_less, staged_frame, frame}
 use Rattle.store.proofs.Types.{not_part}
 use Rattle.rules.specs.Calls.{handed_in}
-use Rattle.balance.specs.Steps.{bases, onwards, Given, kind_stored, address, Based, Building}
+use Rattle.balance.specs.Steps.{bases, onwards, kind_stored, address, Building}
 use Rattle.balance.proofs.Sites.{Leads, TreeAt, PartAt, Site}
 use Rattle.balance.proofs.Handed.{Handed, handed}
 use Rattle.balance.proofs.Noting.{leads_in}
@@ -145,17 +145,3 @@ module _ {f : Bool} {held cs ws : List ℕ} {n high low : ℕ} (i : ℕ) (l : i 
         let inner : Holds f held n top low first t.kids = rw (first_is, top_is) (link_held b i t.start t.kids (cell_first cs i) (omega arith) t.first_is) in
         let new = p.holds f n low t.type t.kids t.rest (omega (arith, l)) (omega (arith, top_is, b.high_is)) (omega (arith, top_is, b.high_is, b.under)) (kind_is ∙ kind_as f t.type t.kind_is t.id_is) t.id_is inner later in
         built_more held' top r top_is p.kept p.address (rw (t.here, ← starts, ← t.len_is) new)
-
--- before the first node
-pub building_start : (f : Bool) (held₁ held₂ cs ws : List ℕ) (n high low : ℕ) → Given cs ws n → Staged held₁ low low ws → Based held₂ n (handed_in cs ws) → Same held₁ held₂ 0 0 n
-    → high ≡ n * 11 → high ≤ low → low ≤ length held₁ → low + length ws ≤ 4294967295 → Building f held₂ cs ws n high low n
-building_start f held₁ held₂ cs ws n high low g w b s e u m fits = record {
-  given = g;
-  high_is = e;
-  under = u;
-  inside = omega (arith, s.size);
-  fits = fits;
-  based = b;
-  staged = staged_frame f held₁ held₂ 0 0 low 0 low (omega arith) (omega arith) (same_less held₁ held₂ 0 0 n 0 0 low (omega arith) (omega arith) (omega arith) s) low ws w;
-  built = λ k l o. absurd (omega arith);
-}

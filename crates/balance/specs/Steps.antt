@@ -2,12 +2,12 @@
 use Rattle.std.specs.Prelude.{◌≡◌, Bool, cond, List, [], ◌∷◌, ◌++◌, ℕ, ◌+◌, ◌-◌, ◌*◌, ◌/◌, ◌≤◌, ◌<◌, eqb, length, get_or, set}
 use Rattle.std.specs.Prelude.{None}
 use Rattle.words.specs.Outcome.{Result, settled}
-use Rattle.words.specs.Words.{front}
+use Rattle.words.specs.Words.{front, record_width}
 use Rattle.tree.specs.Trees.{Trees, nil, tree, part, nodes}
 use Rattle.tree.specs.Cells.{packed, tree_cells, cell_width, cell_kind, cell_position, cell_first, cell_next}
 use Rattle.store.specs.Store.{Holds, Staged, first_of_set, node_width}
 use Rattle.rules.specs.Lowest.{bad_cell}
-use Rattle.rules.specs.Calls.{items, most_items, result_room, handed_in}
+use Rattle.rules.specs.Calls.{most_items, result_room, handed_in}
 
 -- Of the trees of siblings in cell order: the start of the parent of each, q for the siblings, ...
 unfoldable pub bases : (q : ℕ) → Trees → List ℕ
@@ -91,5 +91,5 @@ settled_tree ts out words =
 -- accepted cells with the work slice that balance asks for
 pub record Lent (cs ws : List ℕ) (work : ℕ) : Type 0 where
   pub given : Given cs ws (length cs / cell_width)
-  pub most : items cs ws ≤ most_items
-  pub lent : 96 * items cs ws + 96 ≤ work
+  pub most : length cs / cell_width + length ws / record_width ≤ most_items
+  pub lent : 96 * (length cs / cell_width + length ws / record_width) + 96 ≤ work

@@ -32,18 +32,12 @@ module _ {w : List ℕ} {top node next : ℕ} (p : CopyReady w top node next) wh
   pub copy_inside : node + 10 ≤ length w
   copy_inside = inside_node p.none_first w p.base top p.low node (p.first ⊕ p.tail) (omega (arith, p.room, p.inside)) some_here p.holds
 
-  pub copy_room : top + 10 ≤ length w
-  copy_room = omega (arith, p.room, p.inside)
-
   pub copy_onto : Readable w next
   copy_onto = readable p.none_first w p.base top p.low next p.rest (omega (arith, p.room, p.inside)) p.onto
 
   pub copy_kids : {kd a : ℕ} → kd ≡ get_or w node 0 → a ≡ get_or w (node + 4) 0 → (kd ≡ 2 → ⊥) → Readable w a
   copy_kids e f k =
       rw f (kids_node p.none_first w p.base top p.low node (p.first ⊕ p.tail) (omega (arith, p.room, p.inside)) some_here p.holds (λ x. k (e ∙ x)))
-
-  pub copy_fits : top + 10 ≤ 4294967295
-  copy_fits = omega (arith, p.room, p.fits)
 
 -- the words of a node, as the code reads them
 module _ {w : List ℕ} {node kd i s l a : ℕ} (ek : kd ≡ get_or w node 0) (ei : i ≡ get_or w (node + 1) 0) (es : s ≡ get_or w (node + 2) 0)

@@ -1,10 +1,10 @@
 // Internal, for the build and the balance call.
 // Balancing on the store of trees: the core of `Tree::balance` and of repeat trees. A row of siblings is its first node and how
-// many they are; the balanced size of each is read off its node.
+// many they are; the balanced size of each is read off its node. The work slice goes whole with places in it, as in `store`.
 #![tactic(auto)]
 
-ghost use Rattle.std.specs.Prelude.{◌≡◌, ◌+◌, ◌-◌, ◌*◌, ◌/◌, ◌≤◌, ◌<◌, [], ◌∷◌, length, get_or};
-ghost use Rattle.store.specs.Store.{word, Readable, node_width};
+ghost use Rattle.std.specs.Prelude.{◌≡◌, ◌+◌, ◌-◌, ◌*◌, ◌≤◌, ◌<◌, [], ◌∷◌, length};
+ghost use Rattle.store.specs.Store.{Readable};
 ghost use Rattle.tree.specs.Balance.{total, share};
 ghost use Rattle.words.specs.Words.{put};
 ghost use Rattle.balance_core.specs.Rows.{sized, Sizable, Row, Grouped};
@@ -12,6 +12,7 @@ ghost use Rattle.balance_core.specs.Pending.{GroupAt, PushReady, Pushed};
 ghost use Rattle.balance_core.specs.Ready.{CopyReady, Copied, alone, JoinReady, Joined, DivideReady, Divided, BalanceReady, Balanced};
 
 use store::{NODE_FIRST, NODE_START, NODE_TREES, NODE_WIDTH, NodeType};
+use tree::Kind;
 
 // The first group of a row: how many trees, their size, the list after them and their end.
 #[derive(Clone, Copy)]
@@ -54,6 +55,7 @@ fn first_group(work: &[u32], node: u32, k: u32, balance_type: NodeType, m: u32) 
         next: first.next,
         end: first.start.saturating_add(first.length),
     };
+    // A `while`: each node names the next one.
     while g.count < k {
         let grown = g
             .size
@@ -94,7 +96,7 @@ fn copy(work: &mut [u32], top: u32, node: u32, next: u32) -> Made
     ensures { Copied work.old work.new top node next result.top result.node }
 {
     let n = store::node_at(work, node);
-    if n.own.kind == 2 {
+    if Kind::Part.is(n.own.kind) {
         let made = store::push_part(work, top, n.start, n.length, n.first, n.own.id, next);
         return Made {
             top: top + NODE_WIDTH,
@@ -174,7 +176,7 @@ fn push_group(work: &mut [u32], stack: u32, g: Group) -> u32
     ensures work_after { work.new ≡ put work.old result (g.node ∷ g.count ∷ g.size ∷ g.end ∷ []) }
 {
     let at = stack - 4;
-    words::put(work, at as usize, &[g.node, g.count, g.size, g.end]);
+    words::put(work, at as usize, [g.node, g.count, g.size, g.end]);
     at
 }
 
@@ -193,6 +195,7 @@ fn push_groups(
     let mut sp = stack;
     let mut at = node;
     let mut left = k;
+    // A `while`: each turn goes on by the count of a group.
     while left > 0 {
         let g = first_group(work, at, left, balance_type, m);
         let waiting = Group {
@@ -229,6 +232,7 @@ fn divide_balanced(
     let mut made = Made { top, node: next };
     let mut left = size;
     let mut sp = push_groups(work, stack, node, k, balance_type, m);
+    // A `while`: groups are taken from a stack, and some put on it.
     while left > 0 {
         let g = group_at(work, sp);
         sp += 4;

@@ -49,9 +49,6 @@ module _ (F b S : ℕ) (w : List ℕ) (size : ℕ) (q : Listed b S w size) where
   pub few_records : n ≤ 1048576
   few_records = q.accepted.few
 
-  pub count_asks : (length w / 4 < size) × (length w < 4294967296)
-  count_asks = (omega (arith, q.size), omega (arith, q.accepted.few, q.accepted.whole))
-
   -- the state before any record is read
   abbrev from : (end : ℕ) (m : Memo) → State
   from end m = record {

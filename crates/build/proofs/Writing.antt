@@ -10,8 +10,8 @@ use Rattle.words.specs.Outcome.{accepted, refused}
 use Rattle.tree.specs.Trees.{Trees, nil, tree, part, nodes}
 use Rattle.tree.specs.Cells.{cell_width, packed, tree_cells}
 use Rattle.tree.specs.Calls.{room}
-use Rattle.store.specs.Store.{told, Readable, TopReady, TopWrote}
-use Rattle.store.proofs.Frame.{readable, tells_cells, tells_words}
+use Rattle.store.specs.Store.{told, TopReady, TopWrote}
+use Rattle.store.proofs.Frame.{tells_cells, tells_words}
 use Rattle.words.specs.Words.{front}
 use Rattle.build.specs.Building.{Writes, written_tree, written_out}
 use Rattle.tree.proofs.CallLaws.{cells_short, words_short, room_enough}
@@ -29,9 +29,6 @@ result_is : (S : ℕ) (t : Trees) (n m : ℕ) (out out' words words' ps : List �
     → record { outcome = accepted (n ∷ m ∷ []); outputs = out' ∷ words' ∷ [] } ≡ written_tree S t out words
 result_is S t n m out out' words words' ps a b c o v r = rw (o, v, ← a, ← b, ← c, r) refl
 
-pub kids_read : (held : List ℕ) (top kids : ℕ) → Writes held top kids → Readable held kids
-kids_read held top kids q = readable false held q.base top q.low kids q.trees (omega (arith, q.free, q.inside)) q.holds
-
 module _ (held : List ℕ) (top kids : ℕ) (q : Writes held top kids) (id S l : ℕ) (out words : List ℕ) (n k : ℕ) (n-told : k ≡ told held kids 6) (n-more : n ≡ k + 1) where
   n_is : n ≡ suc (nodes q.trees)
   n_is = let e = n-told ∙ tells_cells false held q.base top q.low kids q.trees q.holds in omega (arith, q.free, q.fits, n-more, e)
@@ -41,9 +38,6 @@ module _ (held : List ℕ) (top kids : ℕ) (q : Writes held top kids) (id S l :
 
   nodes_is : nodes whole ≡ n
   nodes_is = whole_nodes id S l q.trees ∙ sym n_is
-
-  pub refuses_cells : length out / cell_width < n → record { outcome = refused 12 0; outputs = out ∷ words ∷ [] } ≡ written_out id S l q.trees out words
-  refuses_cells h = rw (cells_short (nodes whole) (length (packed whole)) (length out) (length words) (omega (arith, nodes_is)))
 
   module _ (fits : n ≤ length out / cell_width) (m : ℕ) (m-told : m ≡ told held kids 7) where
     m_is : m ≡ length (packed q.trees)
@@ -83,19 +77,6 @@ module _ (held : List ℕ) (top kids : ℕ) (q : Writes held top kids) (id S l :
       writes out' words' w =
           result_is S whole n m out out' words words' (packed q.trees) nodes_is packed_is (whole_packed id S l q.trees) (w.cells_out readied) (w.words_out readied)
           (room_enough (nodes whole) (length (packed whole)) (length out) (length words) cells_fit (omega (arith, packed_is)))
-
--- k, or 0 of an empty list
-abbrev pub any_or_none : Trees → ℕ → ℕ
-any_or_none nil k = 0
-any_or_none (tree t s l kids rest) k = k
-any_or_none (part s l ws rest) k = k
-
--- An empty list has no nodes. A tactic that is given this looks at the first node of a list, which tells how many there are.
-pub nodes_any : (ts : Trees) → nodes ts ≡ any_or_none ts (nodes ts)
-unfolding nodes
-nodes_any nil = refl
-nodes_any (tree t s l kids rest) = refl
-nodes_any (part s l ws rest) = refl
 
 -- the slice has no space for the cells
 pub cells_refused : (id S l : ℕ) (kids : Trees) (out words : List ℕ) → length out / cell_width < nodes kids + 1

@@ -21,7 +21,7 @@ fn end_of_list(records: &[u32], start: u32) -> u32
     if n == 0 {
         return start;
     }
-    records::end_at(records, n - 1)
+    records::record_at(records, n - 1).end
 }
 
 // Reads an accepted list into the store. In front of the work slice stand the counts of repeat records, behind them the frames of
@@ -70,7 +70,7 @@ fn read_list(
 }
 
 // 12, 13, or the whole tree over the first-level trees is written out.
-#[tactic(auto, using(crate::proofs::Writing::cells_refused, crate::proofs::Writing::nodes_any))]
+#[tactic(auto, using(crate::proofs::Writing::cells_refused, store::proofs::Counts::nodes_any))]
 fn write_result(
     work: &mut [u32],
     id: u32,

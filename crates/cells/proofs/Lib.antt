@@ -2,7 +2,6 @@ pub mod Reading
 pub mod Rings
 pub mod Scanning
 pub mod PartLoop
-pub mod Testing
 pub mod Links
 pub mod Walking
 pub mod Passing

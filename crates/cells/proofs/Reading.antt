@@ -15,6 +15,7 @@ use Rattle.rules.specs.Cell.{Cell, cells_of}
 use Rattle.rules.specs.Lowest.{chain, chains, any_part}
 use Rattle.cells.specs.Steps.{cell_at, followed, Last}
 use Rattle.rules.proofs.Keeping.{chain_leads, chain_ends}
+use Rattle.std.proofs.lemmas.List.{ext_get_or}
 
 -- words between two places are as many words from the first one on
 pub cut_same : (ws : List ℕ) (from count a n : ℕ) → from ≡ a → count ≡ n → take (from + count - from) (drop from ws) ≡ take n (drop a ws)
@@ -70,30 +71,23 @@ chains_drop (suc i) c (k ∷ ks) =
     chains_drop i (suc c) ks ∙ ap (λ y. chains y (drop i ks)) e
 
 -- a chain's length is looked up in the lengths of all cells
-pub chain_followed : (cs : List ℕ) (n c x : ℕ) → n * cell_width ≡ length cs → c ≤ n → chain c x (chains (suc c) (drop c (cells_of cs))) ≡ followed (chains 1 (cells_of cs)) n c x
+pub chain_followed : (cs : List ℕ) (c x : ℕ) → chain c x (chains (suc c) (drop c (cells_of cs))) ≡ followed (chains 1 (cells_of cs)) c x
 unfolding followed
-chain_followed cs n c x q h = go (dec_le x c) (dec_lt n x)
+chain_followed cs c x = go (dec_le x c)
   where
-    ks : List Cell
-    ks = cells_of cs
-
     all : drop c (chains 1 (cells_of cs)) ≡ chains (suc c) (drop c (cells_of cs))
     all = let e : 1 + c ≡ suc c = omega arith in chains_drop c 1 (cells_of cs) ∙ ap (λ y. chains y (drop c (cells_of cs))) e
 
-    size : length (chains (suc c) (drop c (cells_of cs))) ≡ n - c
-    size = chains_length (suc c) (drop c (cells_of cs)) ∙ (length-drop c (cells_of cs) ∙ omega (arith, length_cells cs))
-
-    go : Dec (x ≤ c) → Dec (n < x) → chain c x (chains (suc c) (drop c (cells_of cs))) ≡ cond (leb x c) 0 (cond (ltb n x) 0 (get_or (chains 1 (cells_of cs)) (x - 1) 0))
-    go (yes l) z = chain_ends c x _ l ∙ rw (le-leb x c l)
-    go (no l) (yes z) = rw (lt-leb x c (omega arith), lt-ltb n x z) (chain_leads c x _ (omega arith) ∙ get_or-eq_default (chains (suc c) (drop c (cells_of cs))) 0 (omega (arith, size)))
-    go (no l) (no z) =
+    go : Dec (x ≤ c) → chain c x (chains (suc c) (drop c (cells_of cs))) ≡ cond (leb x c) 0 (get_or (chains 1 (cells_of cs)) (x - 1) 0)
+    go (yes l) = chain_ends c x _ l ∙ rw (le-leb x c l)
+    go (no l) =
         let e : c + (x - suc c) ≡ x - 1 = omega arith in
-        rw (lt-leb x c (omega arith), le-ltb n x (omega arith))
+        rw (lt-leb x c (omega arith))
         (chain_leads c x _ (omega arith) ∙ (ap (λ y. get_or y (x - suc c) 0) (sym all) ∙ (get_or-drop c (chains 1 (cells_of cs)) (x - suc c) 0 ∙ ap (λ y. get_or (chains 1 (cells_of cs)) y 0) e)))
 
 -- one length from those of later cells
 pub length_at : (cs : List ℕ) (n i : ℕ) → n * cell_width ≡ length cs → i < n
-    → get_or (chains 1 (cells_of cs)) i 0 ≡ suc (followed (chains 1 (cells_of cs)) n (suc i) (cell_next cs i))
+    → get_or (chains 1 (cells_of cs)) i 0 ≡ suc (followed (chains 1 (cells_of cs)) (suc i) (cell_next cs i))
 unfolding chains
 length_at cs n i q h =
     let ks = cells_of cs in
@@ -101,18 +95,19 @@ length_at cs n i q h =
     let a : get_or (chains 1 ks) i 0 ≡ get_or (drop i (chains 1 ks)) 0 0 = ap (λ y. get_or (chains 1 ks) y 0) (sym (add-zero i)) ∙ sym (get_or-drop i (chains 1 ks) 0 0) in
     let b : drop i (chains 1 ks) ≡ chains (suc i) (cell_at cs i ∷ drop (suc i) ks) =
     chains_drop i 1 ks ∙ (ap (λ y. chains y (drop i ks)) e ∙ ap (chains (suc i)) (cells_drop i cs (omega arith))) in
-    a ∙ (ap (λ y. get_or y 0 0) b ∙ ap suc (chain_followed cs n (suc i) (cell_next cs i) q h))
+    a ∙ (ap (λ y. get_or y 0 0) b ∙ ap suc (chain_followed cs (suc i) (cell_next cs i)))
 
--- lengths read from a slice that has them
-pub followed_same : (cs held : List ℕ) (n c x : ℕ) → ((j : ℕ) → c ≤ j → j < n → get_or held j 0 ≡ get_or (chains 1 (cells_of cs)) j 0)
-    → followed held n c x ≡ followed (chains 1 (cells_of cs)) n c x
+-- the lengths from cell c on are those of all cells
+abbrev pub Tail : (cs : List ℕ) (c : ℕ) → List ℕ → Type 0
+Tail cs c held = (j : ℕ) → c ≤ j → get_or held j 0 ≡ get_or (chains 1 (cells_of cs)) j 0
+
+followed_same : (cs held : List ℕ) (c x : ℕ) → Tail cs c held → followed held c x ≡ followed (chains 1 (cells_of cs)) c x
 unfolding followed
-followed_same cs held n c x h = go (dec_le x c) (dec_lt n x)
+followed_same cs held c x h = go (dec_le x c)
   where
-    go : Dec (x ≤ c) → Dec (n < x) → cond (leb x c) 0 (cond (ltb n x) 0 (get_or held (x - 1) 0)) ≡ cond (leb x c) 0 (cond (ltb n x) 0 (get_or (chains 1 (cells_of cs)) (x - 1) 0))
-    go (yes l) z = rw (le-leb x c l)
-    go (no l) (yes z) = rw (lt-ltb n x z)
-    go (no l) (no z) = rw (h (x - 1) (omega arith) (omega arith))
+    go : Dec (x ≤ c) → cond (leb x c) 0 (get_or held (x - 1) 0) ≡ cond (leb x c) 0 (get_or (chains 1 (cells_of cs)) (x - 1) 0)
+    go (yes l) = rw (le-leb x c l)
+    go (no l) = rw (h (x - 1) (omega arith))
 
 -- links of 32 bits
 abbrev Small : List Cell → Type 0
@@ -143,23 +138,24 @@ chains_fit (k ∷ ks) c (suc j) s h =
     let e : c + suc j ≡ suc c + j = omega arith in
     rw e (chains_fit ks (suc c) j s.1 (omega arith))
 
-pub followed_fits : (cs : List ℕ) (n c x : ℕ) → ((j : ℕ) → get_or cs j 0 < 4294967296) → 0 < c → x < 4294967296 → followed (chains 1 (cells_of cs)) n c x < 4294967295
+followed_fits : (cs : List ℕ) (c x : ℕ) → ((j : ℕ) → get_or cs j 0 < 4294967296) → 0 < c → x < 4294967296 → followed (chains 1 (cells_of cs)) c x < 4294967295
 unfolding followed
-followed_fits cs n c x small pos h = go (dec_le x c) (dec_lt n x)
+followed_fits cs c x small pos h = go (dec_le x c)
   where
-    go : Dec (x ≤ c) → Dec (n < x) → cond (leb x c) 0 (cond (ltb n x) 0 (get_or (chains 1 (cells_of cs)) (x - 1) 0)) < 4294967295
-    go (yes l) z = rw (le-leb x c l) (omega arith)
-    go (no l) (yes z) = rw (lt-leb x c (omega arith), lt-ltb n x z) (omega arith)
-    go (no l) (no z) =
-        rw (lt-leb x c (omega arith), le-ltb n x (omega arith)) (omega (arith, chains_fit (cells_of cs) 1 (x - 1) (small_cells cs small) (omega arith)))
+    go : Dec (x ≤ c) → cond (leb x c) 0 (get_or (chains 1 (cells_of cs)) (x - 1) 0) < 4294967295
+    go (yes l) = rw (le-leb x c l) (omega arith)
+    go (no l) =
+        rw (lt-leb x c (omega arith)) (omega (arith, chains_fit (cells_of cs) 1 (x - 1) (small_cells cs small) (omega arith)))
 
--- lengths from cell c on, and one more
-abbrev pub Tail : (cs : List ℕ) (n c : ℕ) → List ℕ → Type 0
-Tail cs n c held = (j : ℕ) → c ≤ j → j < n → get_or held j 0 ≡ get_or (chains 1 (cells_of cs)) j 0
+-- no length is put in yet
+pub tail_start : (cs held : List ℕ) → length held * cell_width ≡ length cs → Tail cs (length held) held
+tail_start cs held q j h =
+    get_or-eq_default held 0 h ∙ sym (get_or-eq_default (chains 1 (cells_of cs)) 0 (omega (arith, chains_length 1 (cells_of cs), length_cells cs)))
 
-pub tail_set : (cs held : List ℕ) (n c x v : ℕ) → n * cell_width ≡ length cs → n ≤ length held → 0 < c → c ≤ n → x ≡ cell_next cs (c - 1) → v ≡ followed held n c x
-    → Tail cs n c held → Tail cs n (c - 1) (set held (c - 1) (v + 1))
-tail_set cs held n c x v q room pos top ex ev h j a b = go (ℕ_discrete j (c - 1))
+-- one length more
+pub tail_set : (cs held : List ℕ) (c x v : ℕ) → length held * cell_width ≡ length cs → 0 < c → c ≤ length held → x ≡ cell_next cs (c - 1) → v ≡ followed held c x
+    → Tail cs c held → Tail cs (c - 1) (set held (c - 1) (v + 1))
+tail_set cs held c x v q pos top ex ev h j a = go (ℕ_discrete j (c - 1))
   where
     go : Dec (j ≡ c - 1) → get_or (set held (c - 1) (v + 1)) j 0 ≡ get_or (chains 1 (cells_of cs)) j 0
     go (yes e) =
@@ -167,9 +163,14 @@ tail_set cs held n c x v q room pos top ex ev h j a b = go (ℕ_discrete j (c - 
         let one : v + 1 ≡ suc v = omega arith in
         ap (λ y. get_or (set held (c - 1) (v + 1)) y 0) e
         ∙ (get_or-set_same held (c - 1) (v + 1) 0 (omega arith)
-        ∙ (one ∙ (ap suc (ev ∙ (followed_same cs held n c x h ∙ (ap (λ y. followed (chains 1 (cells_of cs)) n c y) ex ∙ ap (λ y. followed (chains 1 (cells_of cs)) n y (cell_next cs (c - 1))) (sym s))))
-        ∙ (sym (length_at cs n (c - 1) q (omega arith)) ∙ ap (λ y. get_or (chains 1 (cells_of cs)) y 0) (sym e)))))
-    go (no e) = get_or-set_other held (c - 1) j (v + 1) 0 e ∙ h j (omega arith) b
+        ∙ (one ∙ (ap suc (ev ∙ (followed_same cs held c x h ∙ (ap (λ y. followed (chains 1 (cells_of cs)) c y) ex ∙ ap (λ y. followed (chains 1 (cells_of cs)) y (cell_next cs (c - 1))) (sym s))))
+        ∙ (sym (length_at cs (length held) (c - 1) q (omega arith)) ∙ ap (λ y. get_or (chains 1 (cells_of cs)) y 0) (sym e)))))
+    go (no e) = get_or-set_other held (c - 1) j (v + 1) 0 e ∙ h j (omega arith)
+
+-- all lengths are put in
+pub tail_all : (cs held : List ℕ) (c : ℕ) → length held * cell_width ≡ length cs → c ≡ 0 → Tail cs c held → held ≡ chains 1 (cells_of cs)
+tail_all cs held c q e h =
+    ext_get_or 0 held (chains 1 (cells_of cs)) (omega (arith, chains_length 1 (cells_of cs), length_cells cs)) (λ j l. h j (omega arith))
 
 -- no part from cell c on, and one
 pub no_part_from : (cs : List ℕ) (n c : ℕ) → n * cell_width ≡ length cs → n ≤ c → any_part (drop c (cells_of cs)) ≡ false
@@ -184,8 +185,8 @@ pub part_here : (cs : List ℕ) (n i : ℕ) → n * cell_width ≡ length cs →
 unfolding any_part
 part_here cs n i q h = ap any_part (cells_drop i cs (omega arith))
 
-pub fits_at : (cs held : List ℕ) (n c x v : ℕ) → ((j : ℕ) → get_or cs j 0 < 4294967296) → 0 < c → x < 4294967296 → v ≡ followed held n c x → Tail cs n c held → v < 4294967295
-fits_at cs held n c x v small pos h e t = omega (arith, e, followed_same cs held n c x t, followed_fits cs n c x small pos h)
+pub fits_at : (cs held : List ℕ) (c x v : ℕ) → ((j : ℕ) → get_or cs j 0 < 4294967296) → 0 < c → x < 4294967296 → v ≡ followed held c x → Tail cs c held → v < 4294967295
+fits_at cs held c x v small pos h e t = omega (arith, e, followed_same cs held c x t, followed_fits cs c x small pos h)
 
 -- no part from cell c on
 abbrev pub Bare : (cs : List ℕ) (c : ℕ) → Type 0
@@ -203,9 +204,6 @@ bare_back cs n c q pos top ne h j a = go (ℕ_discrete j (c - 1))
         ap (λ y. any_part (drop y (cells_of cs))) e
         ∙ (part_here cs n (c - 1) q (omega arith) ∙ rw (ne_eqb (cell_kind cs (c - 1)) 2 ne) (ap (λ y. any_part (drop y (cells_of cs))) s ∙ h c (omega arith)))
     go (no e) = h j (omega arith)
-
-pub last_none : (cs : List ℕ) (n c : ℕ) → c ≡ 0 → Bare cs c → Last cs n 0
-last_none cs n c e h = record { few = omega arith; is = λ j. h j (omega arith) ∙ sym (le-ltb j 0 (omega arith)) }
 
 or_right : (x : Bool) → x || true ≡ true
 or_right true = refl

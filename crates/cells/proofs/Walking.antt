@@ -14,12 +14,11 @@ use lib.ListN.{length, get_or, drop, drop_of_length-le}
 use Rattle.tree.specs.Cells.{cell_width}
 use Rattle.rules.specs.Cell.{Cell, cells_of, is_part, first_child}
 use Rattle.rules.specs.Lowest.{chain, chains, Named, named, top_broken, kind_broken, id_broken, link_broken, count_broken, place_broken, order_broken, inside_broken, end_broken, part_broken, stray_broken, broken, next_named, first_named, words_end, lowest_from, top_named, bad_cell}
-use Rattle.cells.specs.Steps.{cell_at, followed, Lengths, Last, Front, own_test, count_test, range_test, stray_test, cell_test, cell_or_none}
+use Rattle.cells.specs.Steps.{cell_at, followed, Last, own_test, count_test, range_test, stray_test, cell_test, cell_or_none}
 use Rattle.cells.specs.Open.{width, Held, Under, Rising, Names, Clash, Stack, Over, Put, Pushed, due}
 use Rattle.rules.proofs.Tests.{neither}
 use Rattle.rules.proofs.Keeping.{Keeps, keeps, none_broken}
-use Rattle.cells.proofs.Reading.{cells_drop, length_cells, chain_followed, followed_same}
-use Rattle.cells.proofs.Links.{held_front}
+use Rattle.cells.proofs.Reading.{cells_drop, length_cells, chain_followed}
 
 or_false : (a b : Bool) → a ≡ false → b ≡ false → a || b ≡ false
 or_false a b x y = rw (x, y)
@@ -31,14 +30,12 @@ module _ (T : ℕ) (ws : List ℕ) (n : ℕ) where
   unfolding own_test
   own_is i k = rw (add-one i)
 
-  count_is : (cs held : List ℕ) (i : ℕ) → n * cell_width ≡ length cs → i < n → Lengths cs n held
-      → count_test held n i (cell_at cs i) ≡ count_broken (suc i) (cell_at cs i) (chains (suc (suc i)) (drop (suc i) (cells_of cs)))
+  count_is : (cs : List ℕ) (i : ℕ) → count_test (chains 1 (cells_of cs)) i (cell_at cs i) ≡ count_broken (suc i) (cell_at cs i) (chains (suc (suc i)) (drop (suc i) (cells_of cs)))
   unfolding count_test count_broken
-  count_is cs held i q h l =
+  count_is cs i =
       let k = cell_at cs i in
-      let e : followed held n (i + 1) k.first ≡ chain (suc i) k.first (chains (suc (suc i)) (drop (suc i) (cells_of cs))) =
-      ap (λ y. followed held n y k.first) (add-one i)
-      ∙ (followed_same cs held n (suc i) k.first (λ j a b. l.at j b) ∙ sym (chain_followed cs n (suc i) k.first q h)) in
+      let e : followed (chains 1 (cells_of cs)) (i + 1) k.first ≡ chain (suc i) k.first (chains (suc (suc i)) (drop (suc i) (cells_of cs))) =
+      ap (λ y. followed (chains 1 (cells_of cs)) y k.first) (add-one i) ∙ sym (chain_followed cs (suc i) k.first) in
       ap (λ y. cond (is_part k) false (not (eqb k.count y))) e ∙ go (is_part k) (not (eqb k.count (chain (suc i) k.first (chains (suc (suc i)) (drop (suc i) (cells_of cs))))))
     where
       go : (p x : Bool) → cond p false x ≡ not p && x
@@ -104,7 +101,7 @@ module _ (T : ℕ) (ws : List ℕ) (n : ℕ) where
           wide (Some l) x y = x
 
   -- all tests at once
-  module _ (cs held : List ℕ) (i w last : ℕ) (d : Named) (ds : List Named) (q : n * cell_width ≡ length cs) (below : i < n) (lengths : Lengths cs n held) (final : Last cs n last) where
+  module _ (cs : List ℕ) (i w last : ℕ) (d : Named) (ds : List Named) (final : Last cs n last) where
     abbrev k₀ : Cell
     k₀ = cell_at cs i
 
@@ -112,13 +109,13 @@ module _ (T : ℕ) (ws : List ℕ) (n : ℕ) where
     later = drop (suc i) (cells_of cs)
 
     abbrev test : Bool
-    test = cell_test T ws n last i w held d.after (width d.within) d.base k₀
+    test = cell_test T ws n last i w (chains 1 (cells_of cs)) d.after (width d.within) d.base k₀
 
     test_keeps : test ≡ false → place_broken (suc i) d ds ≡ false → Keeps T ws n (suc i) w d ds k₀ later
     unfolding cell_test
     test_keeps h p =
         let (a, h₁) = neither (own_test T n i k₀) _ h in
-        let (b, h₂) = neither (count_test held n i k₀) _ h₁ in
+        let (b, h₂) = neither (count_test (chains 1 (cells_of cs)) i k₀) _ h₁ in
         let (c, h₃) = neither (range_test i k₀.position k₀.len d.after (width d.within) d.base) _ h₂ in
         let (e, f) = neither (part_broken T ws w k₀) _ h₃ in
         let (a₀, g₀) = neither (top_broken (suc i) k₀) _ (sym (own_is i k₀) ∙ a) in
@@ -132,7 +129,7 @@ module _ (T : ℕ) (ws : List ℕ) (n : ℕ) where
           ids = a₂;
           next_link = a₃;
           first_link = a₄;
-          counts = sym (count_is cs held i q below lengths) ∙ b;
+          counts = sym (count_is cs i) ∙ b;
           place = p;
           order = r₀;
           inside = r₁;
@@ -145,7 +142,7 @@ module _ (T : ℕ) (ws : List ℕ) (n : ℕ) where
     unfolding cell_test
     keeps_test small s =
         or_false (own_test T n i k₀) _ (own_is i k₀ ∙ or_false (top_broken (suc i) k₀) _ s.top (or_false (kind_broken k₀) _ s.kinds (or_false (id_broken T k₀) _ s.ids (or_false (link_broken n (suc i) k₀.next) _ s.next_link s.first_link))))
-        (or_false (count_test held n i k₀) _ (count_is cs held i q below lengths ∙ s.counts)
+        (or_false (count_test (chains 1 (cells_of cs)) i k₀) _ (count_is cs i ∙ s.counts)
         (or_false (range_test i k₀.position k₀.len d.after (width d.within) d.base) _ (keeps_range i d k₀ small s.top s.order s.inside s.ends)
         (or_false (part_broken T ws w k₀) _ s.words (stray_is cs i last final ∙ s.stray))))
 
@@ -195,24 +192,22 @@ module _ (T : ℕ) (ws : List ℕ) (n S : ℕ) (cs : List ℕ) where
     pub stack : Stack held n top limit ds
     pub few : top ≤ suc i
     pub far : i < limit
-    pub lengths : Lengths cs n held
     pub same : whole ≡ lowest_from T ws n (suc i) w ds (drop i (cells_of cs))
 
   due_top : due 1 0 None S [] ≡ top_named S ∷ []
   unfolding due top_named
   due_top = refl
 
-  pub walk_start : (held held' : List ℕ) (t limit : ℕ) → Lengths cs n held → Put held held' n 0 (n + 1) t limit 1 0 4294967295 S → Walk held' 0 0 t limit
+  pub walk_start : (held held' : List ℕ) (t limit : ℕ) → Put held held' 0 (n + 1) t limit 1 0 4294967295 S → Walk held' 0 0 t limit
   unfolding width
-  walk_start held held' t limit l p =
-      let empty : Stack held n 0 (n + 1) [] = record { size = refl; held_are = tt; rising = tt; most = omega arith; clash = λ h. absurd (omega arith) } in
-      let s = subst (Stack held' n t limit) due_top (p.stack [] None refl empty) in
+  walk_start held held' t limit p =
+      let empty : Stack held n 0 (n + 1) [] = record { size = refl; held_are = tt; rising = tt; clash = λ h. absurd (omega arith) } in
+      let s = subst (Stack held' n t limit) due_top (p.stack n [] None refl empty) in
       record {
         ds = top_named S ∷ [];
         stack = s;
         few = omega (arith, s.size);
-        far = p.above 0 [] empty tt (omega arith);
-        lengths = record { at = λ j h. p.front.at j h ∙ l.at j h };
+        far = p.above n 0 [] empty tt (omega arith);
         same = refl;
       }
 
@@ -286,7 +281,7 @@ module _ (T : ℕ) (ws : List ℕ) (n S : ℕ) (cs : List ℕ) where
 
       module _ (links : top ≡ 0 → ⊥) where
         abbrev p₁ : ℕ
-        p₁ = n + (top - 1) * 4
+        p₁ = (top - 1) * 4
 
         -- the latest link and the others
         record Latest : Type 0 where
@@ -298,14 +293,13 @@ module _ (T : ℕ) (ws : List ℕ) (n S : ℕ) (cs : List ℕ) where
           after_is : get_or held (p₁ + 1) 0 ≡ d.after
           within_is : get_or held (p₁ + 2) 0 ≡ width d.within
           base_is : get_or held (p₁ + 3) 0 ≡ d.base
-          popped : Stack held n (top - 1) limit older → Stack held n (top - 1) limit older
           rising : Rising limit (d ∷ older)
-          held_older : Held held n older
+          held_older : Held held older
 
         latest : Latest
         latest = go s.ds refl s.stack.size s.stack.held_are s.stack.rising
           where
-            go : (ds : List Named) → s.ds ≡ ds → top ≡ length ds → Held held n ds → Rising limit ds → Latest
+            go : (ds : List Named) → s.ds ≡ ds → top ≡ length ds → Held held ds → Rising limit ds → Latest
             go [] a z h r = absurd (links z)
             go (d ∷ ds) a z h r =
                 let e : length ds ≡ top - 1 = omega arith in
@@ -314,11 +308,10 @@ module _ (T : ℕ) (ws : List ℕ) (n S : ℕ) (cs : List ℕ) where
                   older = ds;
                   all = a;
                   size = sym e;
-                  cell_is = ap (λ y. get_or held (n + y * 4) 0) (sym e) ∙ h.cell_is;
-                  after_is = ap (λ y. get_or held (n + y * 4 + 1) 0) (sym e) ∙ h.after_is;
-                  within_is = ap (λ y. get_or held (n + y * 4 + 2) 0) (sym e) ∙ h.within_is;
-                  base_is = ap (λ y. get_or held (n + y * 4 + 3) 0) (sym e) ∙ h.base_is;
-                  popped = λ x. x;
+                  cell_is = ap (λ y. get_or held (y * 4) 0) (sym e) ∙ h.cell_is;
+                  after_is = ap (λ y. get_or held (y * 4 + 1) 0) (sym e) ∙ h.after_is;
+                  within_is = ap (λ y. get_or held (y * 4 + 2) 0) (sym e) ∙ h.within_is;
+                  base_is = ap (λ y. get_or held (y * 4 + 3) 0) (sym e) ∙ h.base_is;
                   rising = r;
                   held_older = h.older;
                 }
@@ -335,20 +328,20 @@ module _ (T : ℕ) (ws : List ℕ) (n S : ℕ) (cs : List ℕ) where
 
         module _ (last : ℕ) (final : Last cs n last) (at_cell : get_or held p₁ 0 ≡ i + 1) (not_limit : i + 1 ≡ limit → ⊥) (small : k₁.len < 4294967296) where
           abbrev test₁ : Bool
-          test₁ = cell_test T ws n last i w held (get_or held (p₁ + 1) 0) (get_or held (p₁ + 2) 0) (get_or held (p₁ + 3) 0) k₁
+          test₁ = cell_test T ws n last i w (chains 1 (cells_of cs)) (get_or held (p₁ + 1) 0) (get_or held (p₁ + 2) 0) (get_or held (p₁ + 3) 0) k₁
 
-          same_test : test₁ ≡ cell_test T ws n last i w held latest.d.after (width latest.d.within) latest.d.base k₁
+          same_test : test₁ ≡ cell_test T ws n last i w (chains 1 (cells_of cs)) latest.d.after (width latest.d.within) latest.d.base k₁
           same_test =
               let l = latest in
-              ap (λ y. cell_test T ws n last i w held y (get_or held (p₁ + 2) 0) (get_or held (p₁ + 3) 0) k₁) l.after_is
-              ∙ ap₂ (λ x y. cell_test T ws n last i w held l.d.after x y k₁) l.within_is l.base_is
+              ap (λ y. cell_test T ws n last i w (chains 1 (cells_of cs)) y (get_or held (p₁ + 2) 0) (get_or held (p₁ + 3) 0) k₁) l.after_is
+              ∙ ap₂ (λ x y. cell_test T ws n last i w (chains 1 (cells_of cs)) l.d.after x y k₁) l.within_is l.base_is
 
           pub walk_test : test₁ ≡ true → i + 1 ≡ whole
           walk_test h =
               let l = latest in
               add-one i
               ∙ sym (at_latest (suc i) (hit (suc i) w l.d l.older k₁ ks₁ (not_kept (suc i) w l.d l.older k₁ ks₁
-              (λ k. true≢false (sym h ∙ (same_test ∙ keeps_test T ws n cs held i w last l.d l.older q below s.lengths final small k))))))
+              (λ k. true≢false (sym h ∙ (same_test ∙ keeps_test T ws n cs i w last l.d l.older final small k))))))
 
           here_cell : latest.d.cell ≡ suc i
           here_cell = sym latest.cell_is ∙ (at_cell ∙ add-one i)
@@ -362,7 +355,7 @@ module _ (T : ℕ) (ws : List ℕ) (n S : ℕ) (cs : List ℕ) where
 
           module _ (clear : test₁ ≡ false) where
             kept : Keeps T ws n (suc i) w latest.d latest.older k₁ ks₁
-            kept = test_keeps T ws n cs held i w last latest.d latest.older q below s.lengths final (sym same_test ∙ clear) placed
+            kept = test_keeps T ws n cs i w last latest.d latest.older final (sym same_test ∙ clear) placed
 
             pub record Fitting : Type 0 where
               pub end : k₁.position + k₁.len ≤ 4294967295
@@ -420,15 +413,14 @@ module _ (T : ℕ) (ws : List ℕ) (n S : ℕ) (cs : List ℕ) where
                 go (yes e) = ap (λ b. width (elim b [ true ↦ None | false ↦ Some l ])) (eq-eqb (suc i) 1 (omega arith)) ∙ sym (ap (λ b. cond b 4294967295 l) (eq-eqb i 0 e))
                 go (no e) = ap (λ b. width (elim b [ true ↦ None | false ↦ Some l ])) (ne_eqb (suc i) 1 (λ z. omega arith)) ∙ sym (ap (λ b. cond b 4294967295 l) (ne_eqb i 0 e))
 
-            -- without the latest link, after the part check has used the words from m on
-            popped : (held₁ : List ℕ) (m : ℕ) → n + (top - 1) * 4 ≤ m → Front m held held₁ → Stack held₁ n (top - 1) limit latest.older
-            popped held₁ m r f =
+            -- without the latest link
+            popped : Stack held n (top - 1) limit latest.older
+            popped =
                 let l = latest in
                 record {
                   size = l.size;
-                  held_are = held_front held held₁ n m l.older (omega (arith, l.size)) f l.held_older;
+                  held_are = l.held_older;
                   rising = l.rising.older;
-                  most = s.stack.most;
                   clash = λ h. go (subst (Clash limit) l.all (s.stack.clash h));
                 }
               where
@@ -443,23 +435,23 @@ module _ (T : ℕ) (ws : List ℕ) (n S : ℕ) (cs : List ℕ) where
                 go true = omega arith
                 go false = omega arith
 
-            module _ (held₁ held₂ : List ℕ) (m t₂ limit₂ : ℕ) (room : n + (top - 1) * 4 ≤ m) (enough : n ≤ m) (kept-front : Front m held held₁)
-                (put : Put held₁ held₂ n (top - 1) limit t₂ limit₂ k₁.next (k₁.position + k₁.len) (get_or held (p₁ + 2) 0) (get_or held (p₁ + 3) 0)) where
+            module _ (held₂ : List ℕ) (t₂ limit₂ : ℕ)
+                (put : Put held held₂ (top - 1) limit t₂ limit₂ k₁.next (k₁.position + k₁.len) (get_or held (p₁ + 2) 0) (get_or held (p₁ + 3) 0)) where
               mid : Stack held₂ n t₂ limit₂ (next_named latest.d k₁ latest.older)
               mid =
                   let l = latest in
                   subst (Stack held₂ n t₂ limit₂) (ap (λ y. due k₁.next (k₁.position + k₁.len) l.d.within y l.older) l.base_is ∙ sym (next_is l.d k₁ l.older))
-                  (put.stack l.older l.d.within (sym l.within_is) (popped held₁ m room kept-front))
+                  (put.stack n l.older l.d.within (sym l.within_is) popped)
 
-              pub walk_mid : t₂ ≤ top
+              walk_mid : t₂ ≤ top
               walk_mid = omega (arith, mid.size, ap length (next_is latest.d k₁ latest.older), due_size k₁.next (k₁.position + k₁.len) latest.d.within latest.d.base latest.older, latest.size)
 
               over_mid : Over (suc i) (next_named latest.d k₁ latest.older)
               over_mid = subst (Over (suc i)) (sym (next_is latest.d k₁ latest.older)) (over_due (suc i) k₁.next (k₁.position + k₁.len) latest.d.within latest.d.base latest.older (leads k₁.next kept.next_link) over)
 
-              pub walk_on : (held₃ : List ℕ) (t₃ limit₃ x inner origin w' : ℕ) → x ≡ first_child k₁ → inner ≡ cond (eqb i 0) 4294967295 k₁.len → origin ≡ get_or held (p₁ + 3) 0 + k₁.position
+              walk_on : (held₃ : List ℕ) (t₃ limit₃ x inner origin w' : ℕ) → x ≡ first_child k₁ → inner ≡ cond (eqb i 0) 4294967295 k₁.len → origin ≡ get_or held (p₁ + 3) 0 + k₁.position
                   → w' ≡ words_end w k₁
-                  → Put held₂ held₃ n t₂ limit₂ t₃ limit₃ x 0 inner origin → Walk held₃ (i + 1) w' t₃ limit₃
+                  → Put held₂ held₃ t₂ limit₂ t₃ limit₃ x 0 inner origin → Walk held₃ (i + 1) w' t₃ limit₃
               walk_on held₃ t₃ limit₃ x inner origin w' ex ei eo ew put₃ =
                   let l = latest in
                   let ds₂ = next_named l.d k₁ l.older in
@@ -467,25 +459,24 @@ module _ (T : ℕ) (ws : List ℕ) (n S : ℕ) (cs : List ℕ) where
                   let o = inner_width (suc i) k₁.len in
                   let list : due x 0 o origin ds₂ ≡ ds₃ =
                   ap₂ (λ a b. due a 0 o b ds₂) ex (eo ∙ ap (λ y. y + k₁.position) l.base_is) ∙ sym (first_is l.d k₁ ds₂) in
-                  let st : Stack held₃ n t₃ limit₃ ds₃ = subst (Stack held₃ n t₃ limit₃) list (put₃.stack ds₂ o (width_is k₁.len ∙ sym ei) mid) in
-                  let under : suc i < limit₂ = put.above (suc i) l.older (popped held₁ m room kept-front) over (omega (arith, s.far, not_limit)) in
+                  let st : Stack held₃ n t₃ limit₃ ds₃ = subst (Stack held₃ n t₃ limit₃) list (put₃.stack n ds₂ o (width_is k₁.len ∙ sym ei) mid) in
+                  let under : suc i < limit₂ = put.above n (suc i) l.older popped over (omega (arith, s.far, not_limit)) in
                   record {
                     ds = ds₃;
                     stack = st;
                     few = omega (arith, st.size, ap length list, due_size x 0 o origin ds₂, mid.size, walk_mid, s.few);
-                    far = omega (arith, put₃.above (suc i) ds₂ mid over_mid under);
-                    lengths = record { at = λ j h. put₃.front.at j h ∙ (put.front.at j h ∙ (kept-front.at j (omega arith) ∙ s.lengths.at j h)) };
+                    far = omega (arith, put₃.above n (suc i) ds₂ mid over_mid under);
                     same =
                         at_latest (lowest_from T ws n (suc (suc i)) (words_end w k₁) ds₃ ks₁) (pass (suc i) w l.d l.older k₁ ks₁ (none_broken T ws n (suc i) w l.d l.older k₁ ks₁ kept))
                         ∙ (ap (λ y. lowest_from T ws n (suc (suc i)) y ds₃ ks₁) (sym ew)
                         ∙ ap₂ (λ a b. lowest_from T ws n (suc a) w' ds₃ (drop b (cells_of cs))) (sym (add-one i)) (sym (add-one i)));
                   }
 
-            pub walk_pushed : (held₁ held₃ : List ℕ) (m t₃ limit₃ w' : ℕ) → n + (top - 1) * 4 ≤ m → n ≤ m → Front m held held₁
-                → Pushed held₁ held₃ n i (top - 1) limit t₃ limit₃ k₁ (get_or held (p₁ + 2) 0) (get_or held (p₁ + 3) 0)
+            pub walk_pushed : (held₃ : List ℕ) (t₃ limit₃ w' : ℕ)
+                → Pushed held held₃ i (top - 1) limit t₃ limit₃ k₁ (get_or held (p₁ + 2) 0) (get_or held (p₁ + 3) 0)
                 → w' ≡ words_end w k₁ → Walk held₃ (i + 1) w' t₃ limit₃
-            walk_pushed held₁ held₃ m t₃ limit₃ w' room enough front p ew =
-                walk_on held₁ p.mid m p.t₂ p.limit₂ room enough front p.next_put held₃ t₃ limit₃
+            walk_pushed held₃ t₃ limit₃ w' p ew =
+                walk_on p.mid p.t₂ p.limit₂ p.next_put held₃ t₃ limit₃
                 (first_child k₁) (cond (eqb i 0) 4294967295 k₁.len) (get_or held (p₁ + 3) 0 + k₁.position) w' refl refl refl ew p.first_put
 
 -- the whole answer

@@ -1,4 +1,5 @@
--- What the private functions promise each other.
+-- What `accept` promises, and what the private functions promise each other.
+pub mod Accept
 pub mod Read
 pub mod Steps
 pub mod Open

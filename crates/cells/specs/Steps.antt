@@ -1,6 +1,6 @@
 -- The tree check's tests on words, and what its functions promise each other. Only internal functions cite these; the laws in proofs/ tie
 -- them to crate `rules`.
-use Rattle.std.specs.Prelude.{◌≡◌, Bool, false, ◌&&◌, ◌||◌, not, cond, List, ℕ, zero, suc, Option, None, Some, ◌+◌, ◌-◌, ◌*◌, ◌≤◌, ◌<◌, ltb, leb, eqb, length, get_or, drop}
+use Rattle.std.specs.Prelude.{◌≡◌, Bool, false, ◌&&◌, ◌||◌, not, cond, List, ℕ, zero, suc, Option, None, Some, ◌+◌, ◌-◌, ◌*◌, ◌≤◌, ltb, leb, eqb, length, get_or, drop}
 use Rattle.tree.specs.Cells.{cell_width, cell_kind, cell_id, cell_position, cell_length, cell_first, cell_count, cell_next}
 use Rattle.rules.specs.Cell.{Cell, cells_of, first_child}
 use Rattle.rules.specs.Lowest.{chains, any_part, top_broken, kind_broken, id_broken, link_broken, part_broken}
@@ -22,17 +22,9 @@ unfoldable pub cell_or_none : ℕ → Option ℕ
 cell_or_none zero = None
 cell_or_none (suc c) = Some (suc c)
 
--- the length of the chain that the link x of cell c begins, by the lengths in `held`; n cells
-unfoldable pub followed : List ℕ → (n c x : ℕ) → ℕ
-followed held n c x = cond (leb x c) 0 (cond (ltb n x) 0 (get_or held (x - 1) 0))
-
--- the first n words of `held` are the lengths of the chains from each cell on
-pub record Lengths (cs : List ℕ) (n : ℕ) (held : List ℕ) : Type 0 where
-  pub at : (j : ℕ) → j < n → get_or held j 0 ≡ get_or (chains 1 (cells_of cs)) j 0
-
--- the words before m are kept
-pub record Front (m : ℕ) (before after : List ℕ) : Type 0 where
-  pub at : (j : ℕ) → j < m → get_or after j 0 ≡ get_or before j 0
+-- the length of the chain that the link x of cell c begins, by the lengths of the chains from each cell on
+unfoldable pub followed : (lengths : List ℕ) (c x : ℕ) → ℕ
+followed lengths c x = cond (leb x c) 0 (get_or lengths (x - 1) 0)
 
 -- the last part's number, 0 for none
 pub record Last (cs : List ℕ) (n last : ℕ) : Type 0 where
@@ -47,8 +39,8 @@ own_test T n i k =
     || (id_broken T k || (link_broken n (i + 1) k.next || link_broken n (i + 1) (first_child k))))
 
 -- a chain that has not count cells
-unfoldable pub count_test : (held : List ℕ) (n i : ℕ) (k : Cell) → Bool
-count_test held n i k = cond (eqb k.kind 2) false (not (eqb k.count (followed held n (i + 1) k.first)))
+unfoldable pub count_test : (lengths : List ℕ) (i : ℕ) (k : Cell) → Bool
+count_test lengths i k = cond (eqb k.kind 2) false (not (eqb k.count (followed lengths (i + 1) k.first)))
 
 -- order, parent's end, absolute end; the numbers are those of the latest link
 unfoldable pub range_test : (i position len after within base : ℕ) → Bool
@@ -61,17 +53,17 @@ stray_test size i last k =
     cond (ltb (i + 1) last) false (cond (eqb k.kind 2) (not (eqb (k.first + k.count) size)) (eqb i 0 && not (eqb size 0)))
 
 -- all rules but that of the cell's place
-unfoldable pub cell_test : (T : ℕ) (ws : List ℕ) (n last i w : ℕ) (held : List ℕ) (after within base : ℕ) (k : Cell) → Bool
-cell_test T ws n last i w held after within base k =
+unfoldable pub cell_test : (T : ℕ) (ws : List ℕ) (n last i w : ℕ) (lengths : List ℕ) (after within base : ℕ) (k : Cell) → Bool
+cell_test T ws n last i w lengths after within base k =
     own_test T n i k
-    || (count_test held n i k
+    || (count_test lengths i k
     || (range_test i k.position k.len after within base
     || (part_broken T ws w k || stray_test (length ws) i last k)))
 
--- what the check of n cells is given: the packed words have the length m
-pub record Given (cs : List ℕ) (n m T last : ℕ) (held : List ℕ) : Type 0 where
-  pub cells : n * cell_width ≡ length cs
-  pub room : n * 5 + 8 + m ≤ length held
+-- what the check of cells is given: the lengths of their chains, and room for as many links as are open at most
+pub record Given (cs : List ℕ) (T last : ℕ) (lengths : List ℕ) (links : ℕ) : Type 0 where
+  pub cells : length lengths * cell_width ≡ length cs
   pub types : T ≤ 65536
-  pub final : Last cs n last
-  pub lengths : Lengths cs n held
+  pub final : Last cs (length lengths) last
+  pub lengths_are : lengths ≡ chains 1 (cells_of cs)
+  pub for_links : length lengths * 4 + 8 ≤ links

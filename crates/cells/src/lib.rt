@@ -1,6 +1,7 @@
-// Internal, for the calls that take a tree.
-// The tree check: the cell rules of document 01 (refusal 15) and the lowest cell that breaks one. Two passes over the cells and no
-// recursion: chain lengths from the last cell back, then the rules from cell 1 on, with the open links in the work slice.
+// Internal, for the calls that take a tree: what they test first.
+// Most of it is the tree check: the cell rules of document 01 (refusal 15) and the lowest cell that breaks one. Two passes over the
+// cells and no recursion: chain lengths from the last cell back, then the rules from cell 1 on, with the open links in a part of the
+// work slice.
 #![tactic(auto)]
 
 mod broken;
@@ -13,14 +14,16 @@ ghost use Rattle.tree.specs.Cells.{cell_width};
 ghost use Rattle.rules.specs.Cell.{cells_of};
 ghost use Rattle.rules.specs.Lowest.{lowest_from, top_named, bad_cell};
 ghost use Rattle.rules.specs.Calls.{items};
+ghost use Rattle.cells.specs.Accept.{Tested};
 ghost use Rattle.cells.specs.Read.{cell_of};
 ghost use Rattle.cells.specs.Steps.{cell_at, cell_or_none, Given};
+ghost use Rattle.cells.specs.Parts.{Room};
 
 use broken::cell_broken;
 use linking::{chain_lengths, name_if, placed, push_names, read_link};
 use parts::{last_part, words_end};
-use tree::{CELL_WIDTH, COUNT, Cell, FIRST, ID, KIND, LENGTH, NEXT, POSITION};
-use words::RECORD_WIDTH;
+use tree::{CELL_WIDTH, COUNT, Cell, FIRST, HandedIn, ID, KIND, LENGTH, NEXT, POSITION};
+use words::{RECORD_WIDTH, Refusal};
 
 // What a link says of the cell that it names: where the sibling before it ends, the length of its parent (the largest word
 // where that is the top) and its parent's absolute start.
@@ -31,18 +34,21 @@ pub struct Link {
     pub base: u32,
 }
 
-// The open links: how many there are, and the lowest cell that is sure to be out of place, one past the last cell for none.
+// The open links: how many there are, and the lowest cell that is sure to be out of place, one past the last cell for none, so
+// that the lower of two is a minimum.
 #[derive(Clone, Copy)]
 pub struct Names {
     pub top: usize,
     pub limit: usize,
 }
 
-// What is the same for every cell: the type count, the number of cells, and the last part's cell, 0 for none.
+// What is the same for every cell: the tree, the type count, the lengths of the chains from each cell on, and the last part's cell, 0
+// for none.
 #[derive(Clone, Copy)]
-pub struct Setting {
+pub struct Setting<'a> {
+    pub tree: HandedIn<'a>,
     pub types: u32,
-    pub n: usize,
+    pub lengths: &'a [u32],
     pub last: usize,
 }
 
@@ -62,22 +68,20 @@ fn read_cell(cells: &[u32], i: usize) -> Cell
     }
 }
 
-// The number of the lowest cell that breaks a rule. The chain lengths stand at the front of `work`, then the
-// open links, four words each; the part check uses what follows, and `ends` for end indices.
+// The number of the lowest cell that breaks a rule. `links` is room for the open links, four words each; `indices` and `ends` are
+// room for the part check.
 fn check_cells(
-    cells: &[u32],
-    words: &[u16],
-    g: Setting,
+    g: Setting<'_>,
     start: u32,
-    ends: &mut [u16],
-    work: &mut [u32],
+    links: &mut [u32],
+    indices: &mut [u16],
+    ends: &mut [u32],
 ) -> Option<usize>
-    requires given { Given cells.now g.n (length words.now) g.types g.last work.old }
-    requires record_width_in_bounds { min (length words.now / record_width) 16383 ≤ length ends.old }
-    ensures { result ≡ cell_or_none (lowest_from g.types words.now g.n 1 0 (top_named start ∷ []) (cells_of cells.now)) }
+    requires given { Given g.tree.cells.now g.types g.last g.lengths.now (length links.old) }
+    requires room { Room (length g.tree.words.now) (length indices.old) (length ends.old) }
+    ensures { result ≡ cell_or_none (lowest_from g.entry.types g.entry.tree.words.now (length g.entry.lengths.now) 1 0 (top_named start ∷ []) (cells_of g.entry.tree.cells.now)) }
 {
-    let n = g.n;
-    let at = n * 5 + 8;
+    let n = g.lengths.len();
     let none = Names {
         top: 0,
         limit: n + 1,
@@ -87,100 +91,114 @@ fn check_cells(
         within: u32::MAX,
         base: start,
     };
-    let mut s = name_if(work, n, none, 1, first);
+    let mut s = name_if(links, none, 1, first);
     let mut w: usize = 0;
     for i in 0..n {
         let c = i + 1;
-        if !placed(&*work, n, s, c) {
+        if !placed(links, s, c) {
             return Some(i + 1);
         }
-        let d = read_link(&*work, n, s.top);
-        let k = read_cell(cells, i);
-        if cell_broken(k, words, g, i, w, d, ends, work, at) {
+        let d = read_link(links, s.top);
+        let k = read_cell(g.tree.cells, i);
+        if cell_broken(k, g, i, w, d, indices, ends) {
             return Some(c);
         }
         let older = Names {
             top: s.top - 1,
             ..s
         };
-        s = push_names(work, n, i, older, k, d);
+        s = push_names(links, i, older, k, d);
         w = words_end(k, w);
     }
     None
 }
 
 // 11: "work slice below 96 × items + 96 words of 32 bits".
-pub fn too_little_work(cells: &[u32], words: &[u16], work: &[u32]) -> bool
-    ensures { result ≡ ltb (length work.now) (96 * items cells.now words.now + 96) }
+#[tactic(auto, unfolding(rules::specs::Calls::items))]
+pub fn too_little_work(t: HandedIn<'_>, work: &[u32]) -> bool
+    ensures { result ≡ ltb (length work.now) (96 * items t.entry.cells.now t.entry.words.now + 96) }
 {
-    if work.len() < 96 {
-        return true;
-    }
-    (work.len() - 96) / 96 < cells.len() / CELL_WIDTH + words.len() / RECORD_WIDTH
+    work.len() < 96
+        || (work.len() - 96) / 96 < t.cells.len() / CELL_WIDTH + t.words.len() / RECORD_WIDTH
 }
 
-// The tree check with room for open ends.
+// The tree check with room for the end indices of the records around one. The work slice is divided: the lengths of the chains, the open
+// links, and the ends of the records around.
+#[tactic(auto, using(crate::proofs::Walking::bad_empty, crate::proofs::Walking::bad_ragged, crate::proofs::Walking::bad_named), unfolding(rules::specs::Calls::items))]
 fn check_tree(
-    cells: &[u32],
-    words: &[u16],
+    t: HandedIn<'_>,
     types: u32,
     start: u32,
-    ends: &mut [u16],
+    indices: &mut [u16],
     work: &mut [u32],
 ) -> Option<usize>
     requires types_bound { types ≤ 65536 }
-    requires words_in_bounds { 96 * items cells.now words.now + 96 ≤ length work.old }
-    requires record_width_in_bounds { min (length words.now / record_width) 16383 ≤ length ends.old }
-    ensures { result ≡ bad_cell types start cells.now words.now }
+    requires words_in_bounds { 96 * items t.cells.now t.words.now + 96 ≤ length work.old }
+    requires record_width_in_bounds { min (length t.words.now / record_width) 16383 ≤ length indices.old }
+    ensures { result ≡ bad_cell types start t.entry.cells.now t.entry.words.now }
 {
-    if cells.len() == 0 {
+    if t.cells.is_empty() || t.cells.len() % CELL_WIDTH != 0 {
         return Some(0);
     }
-    if cells.len() % CELL_WIDTH != 0 {
-        return Some(0);
-    }
-    let n = cells.len() / CELL_WIDTH;
-    let last = last_part(cells, n);
-    chain_lengths(cells, n, work);
-    let g = Setting { types, n, last };
-    check_cells(cells, words, g, start, ends, work)
+    let n = t.cells.len() / CELL_WIDTH;
+    let last = last_part(t.cells, n);
+    let (lengths, rest) = work.split_at_mut(n);
+    let (links, ends) = rest.split_at_mut(n * 4 + 8);
+    chain_lengths(t.cells, lengths);
+    let g = Setting {
+        tree: t,
+        types,
+        lengths,
+        last,
+    };
+    check_cells(g, start, links, indices, ends)
 }
 
-// The tree check with an array of N ends, which is large enough for the packed words.
+// The tree check with an array of N end indices, which is large enough for the packed words.
 fn check_within<const N: usize>(
-    cells: &[u32],
-    words: &[u16],
+    t: HandedIn<'_>,
     types: u32,
     start: u32,
     work: &mut [u32],
 ) -> Option<usize>
     requires types_bound { types ≤ 65536 }
-    requires words_in_bounds { 96 * items cells.now words.now + 96 ≤ length work.old }
-    requires room { min (length words.now / record_width) 16383 ≤ N }
+    requires words_in_bounds { 96 * items t.cells.now t.words.now + 96 ≤ length work.old }
+    requires room { min (length t.words.now / record_width) 16383 ≤ N }
     requires size { N ≤ 16383 }
-    ensures { result ≡ bad_cell types start cells.now words.now }
+    ensures { result ≡ bad_cell types start t.entry.cells.now t.entry.words.now }
 {
-    let mut ends = [0u16; N];
-    check_tree(cells, words, types, start, &mut ends, work)
+    let mut indices = [0u16; N];
+    check_tree(t, types, start, &mut indices, work)
 }
 
-// The tree check, after refusals 1 and 11: the lowest cell that breaks a cell rule; 0 where the slice is empty or no multiple of
-// 7. Absolute ends are counted from `start`. For few packed words a small array of open ends is enough: clearing a large one would take
-// longer than the check. The array is made before anything else is tested: a function that returns before it sets up so large a frame was
-// seen to be compiled wrong.
-pub fn tree_check(
-    cells: &[u32],
-    words: &[u16],
-    types: u32,
-    start: u32,
-    work: &mut [u32],
-) -> Option<usize>
+// The tree check, after refusals 1 and 11: the lowest cell that breaks a cell rule; 0 where the cells' slice is empty or no multiple of
+// 7. Absolute ends are counted from `start`. For few packed words a small array of end indices is enough: clearing a large one would take
+// longer than the check. The array is made before anything else is tested here: a function that returns before it sets up so large a
+// frame was seen to be compiled wrong. `tests/c/frames` looks in the compiled code that each is set up first.
+pub fn tree_check(t: HandedIn<'_>, types: u32, start: u32, work: &mut [u32]) -> Option<usize>
     requires types_bound { types ≤ 65536 }
-    requires words_in_bounds { 96 * items cells.now words.now + 96 ≤ length work.old }
-    ensures { result ≡ bad_cell types start cells.now words.now }
+    requires words_in_bounds { 96 * items t.cells.now t.words.now + 96 ≤ length work.old }
+    ensures { result ≡ bad_cell types start t.entry.cells.now t.entry.words.now }
 {
-    if words.len() <= 1024 {
-        return check_within::<256>(cells, words, types, start, work);
+    if t.words.len() <= 1024 {
+        return check_within::<256>(t, types, start, work);
     }
-    check_within::<16383>(cells, words, types, start, work)
+    check_within::<16383>(t, types, start, work)
+}
+
+// What a call that takes a tree tests first: `ManyTypes`, `LittleWork`, `Cell`. Absolute ends are counted from `start`.
+#[tactic(auto, using(rules::proofs::CallLaws::types_refused, rules::proofs::CallLaws::work_refused, rules::proofs::CallLaws::cell_refused))]
+pub fn accept(t: HandedIn<'_>, types: u32, start: u32, work: &mut [u32]) -> Result<(), Refusal>
+    ensures { Tested types start t.entry.cells.now t.entry.words.now (length work.old) result }
+{
+    if 65536 < types {
+        return Err(Refusal::ManyTypes);
+    }
+    if too_little_work(t, &*work) {
+        return Err(Refusal::LittleWork);
+    }
+    if let Some(at) = tree_check(t, types, start, work) {
+        return Err(Refusal::Cell(at));
+    }
+    Ok(())
 }

@@ -1,70 +1,67 @@
-// The links of cells: the lengths of chains, and the links that are open, in the work slice.
+// The links of cells: the lengths of chains, and the links that are open.
 ghost use Rattle.std.specs.Prelude.{◌≡◌, cond, ◌+◌, ◌-◌, ◌*◌, ◌<◌, ◌≤◌, length, eqb};
 ghost use Rattle.tree.specs.Cells.{cell_width};
+ghost use Rattle.rules.specs.Cell.{cells_of};
+ghost use Rattle.rules.specs.Lowest.{chains};
 ghost use Rattle.cells.specs.Read.{cell_of};
-ghost use Rattle.cells.specs.Steps.{followed, Lengths};
+ghost use Rattle.cells.specs.Steps.{followed};
 ghost use Rattle.cells.specs.Open.{in_place, lowered, ReadLink, Put, Pushed};
 
 use crate::broken::first_child;
 use crate::{Link, Names};
 use tree::{CELL_WIDTH, Cell, NEXT};
 
-// How many cells stand on the chain that the link x of cell c begins, by the lengths at the front of `work`.
-pub fn follow(work: &[u32], n: usize, c: usize, x: u32) -> u32
-    requires { n ≤ length work.now }
-    ensures { result ≡ followed work.now n c x }
+// How many cells stand on the chain that the link x of cell c begins, by the lengths of the chains from each later cell on.
+#[tactic(auto, unfolding(crate::specs::Steps::followed))]
+pub fn follow(lengths: &[u32], c: usize, x: u32) -> u32
+    ensures { result ≡ followed lengths.now c x }
 {
     let to = x as usize;
-    if to <= c {
+    if to <= c || lengths.len() < to {
         return 0;
     }
-    if n < to {
-        return 0;
-    }
-    work[to - 1]
+    lengths[to - 1]
 }
 
-// The lengths of the chains from each cell on, to the front of `work`.
-pub fn chain_lengths(cells: &[u32], n: usize, work: &mut [u32])
-    requires cell_width_value { n * cell_width ≡ length cells.now }
-    requires n_in_bounds { n ≤ length work.old }
-    ensures { Lengths cells.now n work.new }
+// The lengths of the chains from each cell on.
+#[tactic(auto, using(crate::proofs::Reading::tail_start, crate::proofs::Reading::tail_set, crate::proofs::Reading::tail_all, crate::proofs::Reading::fits_at))]
+pub fn chain_lengths(cells: &[u32], lengths: &mut [u32])
+    requires { length lengths.old * cell_width ≡ length cells.now }
+    ensures { lengths.new ≡ chains 1 (cells_of cells.now) }
 {
-    for c in (1..=n).rev() {
-        let length = follow(&*work, n, c, cells[(c - 1) * CELL_WIDTH + NEXT]);
-        work[c - 1] = length + 1;
+    for c in (1..=lengths.len()).rev() {
+        let length = follow(lengths, c, cells[(c - 1) * CELL_WIDTH + NEXT]);
+        lengths[c - 1] = length + 1;
     }
 }
 
 // The limit after a link to cell x is put on. If the link below it names a cell m up to x, then m is out of place: at its turn
 // the link to x is still open above it. So no search through the links is needed.
-fn lower(work: &[u32], n: usize, s: Names, x: u32) -> usize
-    requires { n + s.top * 4 ≤ length work.now }
-    ensures { result ≡ lowered work.now n s.top s.limit x }
+#[tactic(auto, unfolding(crate::specs::Open::lowered))]
+fn lower(links: &[u32], s: Names, x: u32) -> usize
+    requires { s.top * 4 ≤ length links.now }
+    ensures { result ≡ lowered links.now s.top s.limit x }
 {
     if s.top == 0 {
         return s.limit;
     }
-    let m = work[n + (s.top - 1) * 4] as usize;
+    let m = links[(s.top - 1) * 4] as usize;
     if (x as usize) < m {
         return s.limit;
     }
-    if m < s.limit {
-        return m;
-    }
-    s.limit
+    s.limit.min(m)
 }
 
 // Puts a link to cell x on the open links, if x names one.
-pub fn name_if(work: &mut [u32], n: usize, s: Names, x: u32, d: Link) -> Names
-    requires { n + s.top * 4 + 4 ≤ length work.old }
-    ensures { Put work.old work.new n s.top s.limit result.top result.limit x d.after d.within d.base }
+pub fn name_if(links: &mut [u32], s: Names, x: u32, d: Link) -> Names
+    requires { s.top * 4 + 4 ≤ length links.old }
+    ensures { Put links.old links.new s.top s.limit result.top result.limit x d.after d.within d.base }
 {
     if x == 0 {
         return s;
     }
-    let limit = lower(&*work, n, s, x);
-    words::put(work, n + s.top * 4, &[x, d.after, d.within, d.base]);
+    let limit = lower(links, s, x);
+    words::put(links, s.top * 4, [x, d.after, d.within, d.base]);
     Names {
         top: s.top + 1,
         limit,
@@ -82,48 +79,43 @@ fn inner_width(i: usize, len: u32) -> u32
 }
 
 // Puts on what cell i + 1 names, by next and by first. d is the link that named it.
-pub fn push_names(work: &mut [u32], n: usize, i: usize, s: Names, k: Cell, d: Link) -> Names
-    requires top_in_bounds { n + s.top * 4 + 8 ≤ length work.old }
+pub fn push_names(links: &mut [u32], i: usize, s: Names, k: Cell, d: Link) -> Names
+    requires top_in_bounds { s.top * 4 + 8 ≤ length links.old }
     requires len_bound { (k.position + k.length ≤ 4294967295) × (d.base + k.position ≤ 4294967295) }
-    ensures { Pushed work.old work.new n i s.top s.limit result.top result.limit (cell_of k) d.within d.base }
+    ensures { Pushed links.old links.new i s.top s.limit result.top result.limit (cell_of k) d.within d.base }
 {
     let beside = Link {
         after: k.position + k.length,
         within: d.within,
         base: d.base,
     };
-    let later = name_if(work, n, s, k.next, beside);
+    let later = name_if(links, s, k.next, beside);
     let below = Link {
         after: 0,
         within: inner_width(i, k.length),
         base: d.base + k.position,
     };
-    name_if(work, n, later, first_child(k), below)
+    name_if(links, later, first_child(k), below)
 }
 
 // Does the latest link name cell c, and no other link?
-pub fn placed(work: &[u32], n: usize, s: Names, c: usize) -> bool
-    requires { n + s.top * 4 ≤ length work.now }
-    ensures { result ≡ in_place work.now n s.top s.limit c }
+#[tactic(auto, unfolding(crate::specs::Open::in_place))]
+pub fn placed(links: &[u32], s: Names, c: usize) -> bool
+    requires { s.top * 4 ≤ length links.now }
+    ensures { result ≡ in_place links.now s.top s.limit c }
 {
-    if c == s.limit {
-        return false;
-    }
-    if s.top == 0 {
-        return false;
-    }
-    work[n + (s.top - 1) * 4] as usize == c
+    c != s.limit && s.top != 0 && links[(s.top - 1) * 4] as usize == c
 }
 
 // What the latest of `top` links says.
-pub fn read_link(work: &[u32], n: usize, top: usize) -> Link
-    requires { (0 < top) × (n + top * 4 ≤ length work.now) }
-    ensures { ReadLink work.now (n + (top - 1) * 4) result.after result.within result.base }
+pub fn read_link(links: &[u32], top: usize) -> Link
+    requires { (0 < top) × (top * 4 ≤ length links.now) }
+    ensures { ReadLink links.now top result.after result.within result.base }
 {
-    let at = n + (top - 1) * 4;
+    let at = (top - 1) * 4;
     Link {
-        after: work[at + 1],
-        within: work[at + 2],
-        base: work[at + 3],
+        after: links[at + 1],
+        within: links[at + 2],
+        base: links[at + 3],
     }
 }

@@ -9,6 +9,9 @@ use native.Mathlib.Decide.{ℕ_discrete}
 use borrow.Author.Tests.{le-leb, lt-leb, le-ltb, lt-ltb, eq-eqb, ne_eqb}
 use lib.Dec.{leb, ltb, eqb}
 use lib.ListN.{length, get_or}
+use Rattle.records.specs.OneRecord.{record_of}
+use Rattle.records.specs.declared.Record.{Record as Read}
+use Rattle.records.proofs.OneRecord.{start_is, end_is, size_is}
 use Rattle.tree.specs.Items.{same}
 use Rattle.tree.specs.Groups.{Gathered, gather, pass}
 use Rattle.tree.specs.Flat.{Record, rec, hold, held_end, flat_part, limit, full, ends, flat}
@@ -303,20 +306,21 @@ module _ {w : List ℕ} {p lo b at : ℕ} {x : Extent} (h : Extending w p lo b a
         go (yes z) = let c : x.end ≡ 0 = h.ended ∙ rw (z, none_held w p lo b) (no_end w p lo b) in absurd (omega arith)
         go (no z) = omega (arith, h.below)
 
-  -- the same by the words that the code has read
-  module _ (some_record : lo < at) {v : ℕ} (ev : v ≡ get_or w ((at - 1) * 4 + 3) 0) where
-    pub drop_at : x.count < 16383 → 4 < v → Extending w p lo b (at - 1) (record { p = at - 1; count = x.count; first = x.first; end = x.end })
-    drop_at f big = extending_drop some_record f (omega (arith, ev))
+  -- the same by the record that the code has read
+  module _ (some_record : lo < at) {r : Read} (is : r ≡ record_of w (at - 1)) where
+    pub drop_at : x.count < 16383 → 4 < r.size → Extending w p lo b (at - 1) (record { p = at - 1; count = x.count; first = x.first; end = x.end })
+    drop_at f big = extending_drop some_record f (omega (arith, size_is _ _ is))
 
-    module _ {u z : ℕ} (eu : u ≡ get_or w ((at - 1) * 4 + 1) 0) (ez : z ≡ x.end - b) (small : v ≤ 4) where
-      pub early_at : u < z → Extends w p lo b x
-      early_at early = extended_early some_record (omega (arith, ev)) (omega (arith, eu, ez))
+    module _ {z : ℕ} (ez : z ≡ x.end - b) (small : r.size ≤ 4) where
+      pub early_at : r.start < z → Extends w p lo b x
+      early_at early = extended_early some_record (omega (arith, size_is _ _ is)) (omega (arith, start_is _ _ is, ez))
 
-      pub hold_at : {t : ℕ} → t ≡ get_or w ((at - 1) * 4 + 2) 0 → x.count < 16383 → z ≤ u
-          → (r : Extent) → r.p ≡ at - 1 → r.count ≡ x.count + 1 → r.first ≡ at - 1 → r.end ≡ cond (eqb x.count 0) t x.end
-          → Extending w p lo b (at - 1) r
-      hold_at et f near r ep ec ef ee =
-          extending_hold some_record r f (omega (arith, ev)) (omega (arith, eu, ez)) ep ec ef (ee ∙ ap (λ (k : ℕ). cond (eqb x.count 0) k x.end) et)
+      pub hold_at : x.count < 16383 → z ≤ r.start
+          → (x' : Extent) → x'.p ≡ at - 1 → x'.count ≡ x.count + 1 → x'.first ≡ at - 1 → x'.end ≡ cond (eqb x.count 0) r.end x.end
+          → Extending w p lo b (at - 1) x'
+      hold_at f near x' ep ec ef ee =
+          extending_hold some_record x' f (omega (arith, size_is _ _ is)) (omega (arith, start_is _ _ is, ez)) ep ec ef
+          (ee ∙ ap (λ (k : ℕ). cond (eqb x.count 0) k x.end) (end_is _ _ is))
 
   pub extended_done : at ≤ lo → Extends w p lo b x
   extended_done l =

@@ -1,5 +1,6 @@
 // Internal, for the build.
-// Flat parts: `take_flat_node`, and the loop over the records below a tree deeper than 2,500.
+// Flat parts: `take_flat_node`, and the loop over the records below a tree deeper than 2,500. Lists go
+// whole with places that count records from their front, as spans do; the work slice goes whole as in `store`.
 #![tactic(auto)]
 
 ghost use Rattle.std.specs.Prelude.{◌≡◌, cond, ◌&&◌, ◌+◌, ◌*◌, ◌≤◌, ◌<◌, length, eqb, ltb};
@@ -8,7 +9,9 @@ ghost use Rattle.flat.specs.Back.{Extends};
 ghost use Rattle.flat.specs.Parts.{RecordReady, StagedRecord, StageReady, StagedFlat, NodeReady, TookFlat};
 ghost use Rattle.flat.specs.Taking.{FlatReady, TakenFlat};
 
+use records::record_at;
 use store::{NODE_WIDTH, NodeType};
+use tree::Kind;
 use words::RECORD_SIZE;
 
 // How far a flat part reaches: the place before it, how many records it holds, the number of the leftmost one, and where the
@@ -57,19 +60,21 @@ fn flat_extent(records: &[u32], p: usize, lo: usize, bound: u32) -> Extent
         if 16383 <= x.count {
             return x;
         }
-        if RECORD_SIZE < records::size_at(records, q) {
+        let r = record_at(records, q);
+        if RECORD_SIZE < r.size {
             x = Extent { p: q, ..x };
             continue;
         }
-        if records::start_at(records, q) < x.end.saturating_sub(bound) {
+        if r.start < x.end.saturating_sub(bound) {
             return x;
         }
-        x = x.held(q, records::end_at(records, q));
+        x = x.held(q, r.end);
     }
     x
 }
 
 // Stages the four words of a record in a part that starts at `start`.
+#[tactic(auto, using(records::proofs::OneRecord::id_is, records::proofs::OneRecord::start_is, records::proofs::OneRecord::end_is))]
 fn stage_record(
     records: &[u32],
     i: usize,
@@ -81,13 +86,13 @@ fn stage_record(
     requires { RecordReady records.now work.old i start index low }
     ensures { StagedRecord records.now work.old work.new i start index low result }
 {
-    let from = records::start_at(records, i).saturating_sub(start);
-    let to = records::end_at(records, i).saturating_sub(start);
-    let id = records::id_at(records, i);
+    let r = record_at(records, i);
+    let from = r.start.saturating_sub(start);
+    let to = r.end.saturating_sub(start);
     let third = store::stage(work, low, index as u16);
     let second = store::stage(work, third, to as u16);
     let first = store::stage(work, second, from as u16);
-    store::stage(work, first, id as u16)
+    store::stage(work, first, r.id as u16)
 }
 
 // Stages the held ones of the records from `to` up to p, from the last one back: each holds no other, so that its end index is
@@ -107,7 +112,7 @@ fn stage_flat(
     let mut left = count * RECORD_SIZE;
     let mut below = low;
     for q in (to..p).rev() {
-        if RECORD_SIZE < records::size_at(records, q) {
+        if RECORD_SIZE < record_at(records, q).size {
             continue;
         }
         below = stage_record(records, q, start, left, work, below);
@@ -146,12 +151,15 @@ fn push_flat(
     requires le_count { 1 ≤ x.count }
     ensures { TookFlat records.now work.old work.new lo bound at result }
 {
-    let start = records::start_at(records, x.first);
+    let first = record_at(records, x.first);
+    let start = first.start;
     let length = x.end.saturating_sub(start);
     let top = at.top + NODE_WIDTH;
     if is_lone_long(x.count, length) {
-        let id = records::id_at(records, x.first);
-        let own = NodeType { kind: 1, id };
+        let own = NodeType {
+            kind: Kind::Tree as u32,
+            id: first.id,
+        };
         let loose = store::push_tree(work, at.top, own, start, length, 0, at.loose);
         return FlatNode {
             p: x.p,
@@ -213,11 +221,12 @@ pub fn take_flat(
     let mut at = p;
     let mut below = low;
     let mut h = g;
+    // A `while`: a turn takes up one record, or as many as a flat part holds.
     while lo < at {
         let q = at - 1;
-        let id = records::id_at(records, q);
-        if cursor::is_own(own, id) {
-            h = gathering::pass_over(work, id, records::end_at(records, q), bound, h);
+        let r = record_at(records, q);
+        if cursor::is_own(own, r.id) {
+            h = gathering::pass_over(work, r.id, r.end, bound, h);
             at = q;
             continue;
         }

@@ -1,5 +1,6 @@
 // The functions that the crate gateway_c exports for C and Rust: the number is returned, and place and counts go to the front of
-// `info`, as many as it holds. Every call tells two counts, the part check three; one that a call does not have is 0.
+// `info`, as many as it holds. Every call tells two counts, the part check three; one that a call does not have is 0. Slices stand apart
+// and refusals are numbers, as C has them.
 #![tactic(auto)]
 
 ghost use Rattle.std.specs.Prelude.{◌≡◌, [], ◌∷◌, map};

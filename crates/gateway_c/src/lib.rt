@@ -1,4 +1,5 @@
 // The exported functions as C and Rust link them: each calls the function of the same name of the crate gateway, and promises the same.
+// Slices stand apart, as C has them. A crate is a library or a static library, so that there are two functions of each name.
 #![tactic(auto)]
 
 ghost use Rattle.std.specs.Prelude.{◌≡◌, [], ◌∷◌};

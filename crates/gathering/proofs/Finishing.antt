@@ -17,7 +17,7 @@ use Rattle.tree.specs.Groups.{Gathered, rest_closed, finish}
 use Rattle.tree.proofs.ListingLaws.{⊕-nil}
 use Rattle.tree.proofs.OwnLaws.{total_rest_closed}
 use Rattle.tree.proofs.WellLaws.{well_rest_closed}
-use Rattle.store.specs.Store.{Readable, told, PushedTree}
+use Rattle.store.specs.Store.{Readable, told}
 use Rattle.store.proofs.Frame.{same_less, frame, readable, tells_trees}
 use Rattle.balance_core.specs.Rows.{Row}
 use Rattle.balance_core.specs.Ready.{BalanceReady, Balanced}
@@ -25,7 +25,7 @@ use Rattle.balance_core.proofs.Lists.{siblings_total}
 use Rattle.gathering.specs.Gathering.{due, RestClosed, GroupsReady, GroupsBalanced, FinishReady, Finished}
 use Rattle.gathering.proofs.Due.{total_closed}
 use Rattle.gathering.proofs.Ends.{ends_well}
-use Rattle.gathering.proofs.Passing.{none_at, some_at}
+use Rattle.gathering.proofs.Passing.{some_at}
 use Rattle.tree.specs.Well.{Parts}
 
 siblings_some : (ts : Trees) → is_nil ts ≡ false → 1 ≤ siblings ts
@@ -166,9 +166,6 @@ module _ {w : List ℕ} {stack top i s e groups loose edge next : ℕ} where
   pub finish_room : FinishReady w stack top i s e groups loose edge next → top + 34 ≤ length w
   finish_room p = omega (arith, p.room, p.under, p.inside)
 
-  pub finish_fits : FinishReady w stack top i s e groups loose edge next → top + 34 ≤ 4294967295
-  finish_fits p = omega (arith, p.room, p.under, p.fits)
-
   pub finish_loose_node : FinishReady w stack top i s e groups loose edge next → Readable w loose
   finish_loose_node p = readable false w p.base top p.low loose p.g.loose (omega (arith, finish_room p)) p.holds.loose_at
 
@@ -177,20 +174,6 @@ module _ {w : List ℕ} {stack top i s e groups loose edge next : ℕ} where
 
   pub finish_next : FinishReady w stack top i s e groups loose edge next → Readable w next
   finish_next p = readable false w p.base top p.low next p.rest (omega (arith, finish_room p)) p.onto
-
-  -- no groups
-  pub finished_loose : FinishReady w stack top i s e groups loose edge next → groups ≡ 0 → {len : ℕ} → len ≡ e - s
-      → {w' : List ℕ} {r : ℕ} → PushedTree w w' top 1 i s len loose next r
-      → Finished w w' stack top i s e groups loose edge next (top + 10) r
-  unfolding kind id_word
-  finished_loose q z el {w'} t = record {
-    grown = omega arith;
-    kept = same_less w w' 0 top (top + 10) 0 top stack (omega arith) (omega arith) (omega (arith, q.room)) t.kept;
-    used = λ p. omega arith;
-    holds = λ p.
-        rw (finish_loose p.F i s e p.g p.rest (none_at w p.base top p.low groups p.g.groups p.holds.groups_at z), ← el)
-        (t.holds false p.base p.low (Some i) p.g.loose p.rest p.live p.above (omega (arith, p.room, p.under)) refl refl p.holds.loose_at p.onto);
-  }
 
   -- groups, after the children left over
   module _ (left : groups ≡ 0 → ⊥) {w₁ : List ℕ} {rtop rgroups rloose redge : ℕ} (c : RestClosed w w₁ top i s groups loose edge rtop rgroups rloose redge) where

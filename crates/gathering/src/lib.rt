@@ -1,5 +1,6 @@
 // Internal, for the build.
-// What a tree gathers, closed and finished: the group rule for records of a repeat tree's own id, and `finish_node`.
+// What a tree gathers, closed and finished: the group rule for records of a repeat tree's own id, and `finish_node`. The work slice
+// goes whole with places in it, as in `store`.
 #![tactic(auto)]
 
 ghost use Rattle.std.specs.Prelude.{◌+◌, ◌≤◌, ◌<◌, length};
@@ -8,6 +9,7 @@ ghost use Rattle.gathering.specs.Gathering.{Closed, PassedOver, RestClosed, Grou
 
 use balance_core::{Made, Parent};
 use store::{NODE_TREES, NODE_WIDTH, NodeType};
+use tree::Kind;
 
 // What a tree has gathered: closed groups, the children since then, the last group end.
 #[derive(Clone, Copy)]
@@ -27,7 +29,10 @@ fn make_repeat_leaf(work: &mut [u32], id: u32, start: u32, g: Gathering) -> Gath
     ensures { Closed work.old work.new g.top id start g.groups g.loose g.edge result.top result.groups result.loose result.edge }
 {
     let length = g.edge.saturating_sub(start);
-    let own = NodeType { kind: 1, id };
+    let own = NodeType {
+        kind: Kind::Tree as u32,
+        id,
+    };
     let groups = store::push_tree(work, g.top, own, start, length, g.loose, g.groups);
     Gathering {
         top: g.top + NODE_WIDTH,
@@ -81,7 +86,10 @@ fn balance_repeat(
     ensures { GroupsBalanced work.old work.new stack top id start end groups next result.top result.node }
 {
     let k = store::tell(work, groups, NODE_TREES);
-    let own = NodeType { kind: 1, id };
+    let own = NodeType {
+        kind: Kind::Tree as u32,
+        id,
+    };
     let size = balance_core::row_size(work, groups, k, own);
     let parent = Parent {
         own,
@@ -107,7 +115,10 @@ pub fn finish_node(
 {
     if g.groups == 0 {
         let length = end.saturating_sub(start);
-        let own = NodeType { kind: 1, id };
+        let own = NodeType {
+            kind: Kind::Tree as u32,
+            id,
+        };
         let made = store::push_tree(work, g.top, own, start, length, g.loose, next);
         return Made {
             top: g.top + NODE_WIDTH,

@@ -1,5 +1,5 @@
 // The text that the program reads: from the file that an argument names, or from standard input.
-ghost use Rattle.std.specs.Prelude.{◌≡◌, ◌≤◌, length, IfOk};
+ghost use Rattle.std.specs.Prelude.{◌≤◌, length, IfOk};
 
 use crate::output::Page;
 use std::env::Env;

@@ -7,30 +7,12 @@ use crate::output::Page;
 use crate::packed::{Part, print_indent, print_part};
 use std::fmt;
 use std::fmt::Write;
-use tree::CELL_WIDTH;
+use tree::{CELL_WIDTH, Kind};
 
 type Cell = [u32; CELL_WIDTH];
 
 // The start that a cell counts its position from, and its depth.
 type Note = [u32; 2];
-
-// What a cell is.
-#[derive(Clone, Copy, PartialEq, Eq)]
-enum Kind {
-    Tree,
-    Part,
-    Other,
-}
-
-impl From<u32> for Kind {
-    fn from(word: u32) -> Kind {
-        match word {
-            1 => Kind::Tree,
-            2 => Kind::Part,
-            _ => Kind::Other,
-        }
-    }
-}
 
 // What an outline is made of: a tree, and how its ids are shown.
 #[derive(Clone, Copy)]
@@ -52,7 +34,7 @@ fn note(notes: &mut [Note], x: u32, noted: Note) {
 fn note_links(notes: &mut [Note], cell: &Cell, [base, depth]: Note) {
     let [kind, _, position, _, first, _, next] = *cell;
     note(notes, next, [base, depth]);
-    if Kind::from(kind) != Kind::Part {
+    if !Kind::Part.is(kind) {
         note(
             notes,
             first,
@@ -62,13 +44,15 @@ fn note_links(notes: &mut [Note], cell: &Cell, [base, depth]: Note) {
 }
 
 impl Outline<'_> {
-    // What a cell is: a tree is shown by its id.
-    fn print_label(&self, page: &mut Page, kind: Kind, id: u32) -> fmt::Result {
-        match kind {
-            Kind::Tree => self.names.print_id(page, id),
-            Kind::Part => page.write_str("part"),
-            Kind::Other => page.write_str("tree of no type"),
+    // What a cell is, by its words: a tree is shown by its id.
+    fn print_label(&self, page: &mut Page, kind: u32, id: u32) -> fmt::Result {
+        if Kind::Tree.is(kind) {
+            return self.names.print_id(page, id);
         }
+        if Kind::Part.is(kind) {
+            return page.write_str("part");
+        }
+        page.write_str("tree of no type")
     }
 
     // The line of a cell, and of a part's records. The end can be above 32 bits: the length of the top is any that is given.
@@ -77,16 +61,15 @@ impl Outline<'_> {
     {
         let [base, depth] = noted;
         let [kind, id, position, long, first, count, _] = *cell;
-        let kind = Kind::from(kind);
         let start = base.wrapping_add(position);
         print_indent(page, depth as usize);
         self.print_label(page, kind, id)?;
         write!(page, " {start}..{}", u64::from(start) + u64::from(long))?;
-        if kind == Kind::Tree && self.first_repeat <= id {
+        if Kind::Tree.is(kind) && self.first_repeat <= id {
             page.put(b" repeat");
         }
         page.put(b"\n");
-        if kind == Kind::Part {
+        if Kind::Part.is(kind) {
             let (first, count) = (first as usize, count as usize);
             if let Some(words) = self.words.get(first..first + count) {
                 print_part(

@@ -21,16 +21,6 @@ pub fn print_indent(page: &mut Page, depth: usize) {
     }
 }
 
-// How many of the records whose ends are held go on past a word offset: the others end, and the last one ends first.
-fn still_open(ends: &[u16], at: usize) -> usize
-    ensures { result ≤ length ends.now }
-{
-    match ends.iter().rposition(|end| at < usize::from(*end)) {
-        Some(last) => last + 1,
-        None => 0,
-    }
-}
-
 // The records of a part, each under the one around it. `ends` has room for the end indices of those around a record, and
 // `held` says how many are in it: the program allocates nothing.
 pub fn print_part(page: &mut Page, names: &Names, part: Part<'_>, ends: &mut [u16]) -> fmt::Result
@@ -40,7 +30,7 @@ pub fn print_part(page: &mut Page, names: &Names, part: Part<'_>, ends: &mut [u1
     let mut held = 0;
     for (i, record) in part.words.as_chunks::<RECORD_WIDTH>().0.iter().enumerate() {
         let [id, start, end, end_index] = *record;
-        held = still_open(&ends[..held], i * RECORD_WIDTH);
+        held = part::still_open(&ends[..held], i * RECORD_WIDTH);
         print_indent(page, part.depth as usize + 1 + held);
         names.print_id(page, u32::from(id))?;
         writeln!(

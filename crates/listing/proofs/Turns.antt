@@ -116,9 +116,9 @@ pub record Turn (T F : ℕ) (cs ws held : List ℕ) (m at i : ℕ) (rest : List 
   pub packed_here : cell_kind cs i ≡ 2 → PartHere T cs ws i
   pub first_room : child_of cs i * cell_width ≤ length cs
   pub next_room : cell_next cs i * cell_width ≤ length cs
-  pub goes_on : (held' : List ℕ) (at' : ℕ) → at' ≡ at + length (cell_lines F cs ws i q d) → ((j : ℕ) → j < m → get_or held' j 0 ≡ get_or held j 0) → m ≤ length held'
+  pub goes_on : (at' : ℕ) → at' ≡ at + length (cell_lines F cs ws i q d) → m ≤ length held
       → child_of cs i * 2 ≤ m → cell_next cs i * 2 ≤ m → child_of cs i ≤ 4294967295 → cell_next cs i ≤ 4294967295
-      → State T F cs ws (links_noted F cs held' i q d) m at' (i + 1) later
+      → State T F cs ws (links_noted F cs held i q d) m at' (i + 1) later
 
 -- a link of trees that have a cell within the first m names a cell within the first m
 pub link_room : (ts : Trees) (x c m : ℕ) → x ≡ unless_none ts c → c + nodes ts ≤ m + 1 → x ≤ m
@@ -176,26 +176,26 @@ module _ (T F : ℕ) (cs ws held : List ℕ) (m at i w q d : ℕ) (t : Option �
   own : cell_lines F cs ws i q d ≡ node_line F d t (q + s) (q + s + l)
   own = lines_tree F cs ws i q d t words_of.kind_is ∙ own_is F cs i q d t s l words_of.kind_is words_of.id_is words_of.position_is words_of.len_is
 
-  links_are : (held' : List ℕ) → links_noted F cs held' i q d ≡ noted (noted held' (cell_next cs i) q d) (child_of cs i) (q + s) (node_below F d t)
+  links_are : links_noted F cs held i q d ≡ noted (noted held (cell_next cs i) q d) (child_of cs i) (q + s) (node_below F d t)
   unfolding links_noted
-  links_are held' = rw (words_of.position_is, below_is F cs i d t words_of.kind_is words_of.id_is)
+  links_are = rw (words_of.position_is, below_is F cs i d t words_of.kind_is words_of.id_is)
 
-  notes_next : (held' : List ℕ) (at' : ℕ) → at' ≡ at + length (cell_lines F cs ws i q d) → ((j : ℕ) → j < m → get_or held' j 0 ≡ get_or held j 0) → m ≤ length held'
+  notes_next : (at' : ℕ) → at' ≡ at + length (cell_lines F cs ws i q d) → m ≤ length held
       → child_of cs i * 2 ≤ m → cell_next cs i * 2 ≤ m → child_of cs i ≤ 4294967295 → cell_next cs i ≤ 4294967295
-      → Noted (noted (noted held' (cell_next cs i) q d) (child_of cs i) (q + s) (node_below F d t)) m at' (i + 1) (after_tree F w q d t s kids later os)
-  notes_next held' at' e same wide ry rx by bx =
+      → Noted (noted (noted held (cell_next cs i) q d) (child_of cs i) (q + s) (node_below F d t)) m at' (i + 1) (after_tree F w q d t s kids later os)
+  notes_next at' e wide ry rx by bx =
       let k = nodes kids in
       let w' = w + length (packed kids) in
       let more : at ≤ at' = omega (arith, e) in
       let (low, lines) = below_small F d t (q + s) (q + s + l) in
       let e₁ : i + 1 + suc k ≡ suc (i + 1 + k) = omega arith in
       let e₂ : i + nodes (tree t s l kids later) ≡ i + 1 + k + nodes later = omega (arith, sizes) in
-      let old : Noted held' m at' (i + 1 + k + nodes later) os =
-      noted_same held held' m at at' (i + 1 + k + nodes later) os more (λ j b c. same j c) (subst (λ (z : ℕ). Noted held m at z os) e₂ n.rest) in
-      let mid : Noted (noted held' (cell_next cs i) q d) m at' (i + 1 + k) (after_later w q d kids later os) =
-      noted_push held' m at' (i + 1 + k) w' q d later os (cell_next cs i) (words_of.next_is ∙ ap (unless_none later) e₁) wide rx bx (omega (arith, n.deep)) (omega (arith, n.above, more)) old in
-      noted_push (noted held' (cell_next cs i) q d) m at' (i + 1) w (q + s) (node_below F d t) kids (after_later w q d kids later os) (child_of cs i) child_is
-      (rw (noted_length held' (cell_next cs i) q d) wide) ry by (omega (arith, n.deep, low)) (omega (arith, n.above, lines, e, ap length own)) mid
+      let old : Noted held m at' (i + 1 + k + nodes later) os =
+      noted_same held held m at at' (i + 1 + k + nodes later) os more (λ j b c. refl) (subst (λ (z : ℕ). Noted held m at z os) e₂ n.rest) in
+      let mid : Noted (noted held (cell_next cs i) q d) m at' (i + 1 + k) (after_later w q d kids later os) =
+      noted_push held m at' (i + 1 + k) w' q d later os (cell_next cs i) (words_of.next_is ∙ ap (unless_none later) e₁) wide rx bx (omega (arith, n.deep)) (omega (arith, n.above, more)) old in
+      noted_push (noted held (cell_next cs i) q d) m at' (i + 1) w (q + s) (node_below F d t) kids (after_later w q d kids later os) (child_of cs i) child_is
+      (rw (noted_length held (cell_next cs i) q d) wide) ry by (omega (arith, n.deep, low)) (omega (arith, n.above, lines, e, ap length own)) mid
 
   tree_turn : Turn T F cs ws held m at i (left_lines F (o ∷ os)) q d
   tree_turn = record {
@@ -208,13 +208,13 @@ module _ (T F : ℕ) (cs ws held : List ℕ) (m at i w q d : ℕ) (t : Option �
     packed_here = λ e. absurd (true≢false (sym (eq-eqb (cell_kind cs i) 2 e) ∙ other_kind cs i t words_of.kind_is));
     first_room = first_fits;
     next_room = next_fits;
-    goes_on = λ held' at' e same wide ry rx by bx.
-        rw (links_are held') (record {
+    goes_on = λ at' e wide ry rx by bx.
+        rw links_are (record {
           opens = after_tree F w q d t s kids later os;
           cells_are = tree_next cs i w q d t s l kids later os h F;
           lines_are = refl;
           good = after_tree_good T F ws w q d t s l kids later os a.0.fits a.0.holds a.1;
-          notes = notes_next held' at' e same wide ry rx by bx;
+          notes = notes_next at' e wide ry rx by bx;
         });
   }
 
@@ -249,17 +249,17 @@ module _ (T F : ℕ) (cs ws held : List ℕ) (m at i w q d s l : ℕ) (us : List
       let r = link_room later (cell_next cs i) (suc (i + 1)) k part_words_of.next_is (omega (arith, part_sizes)) in
       omega (arith, r, room cs i p os h a.0.some)
 
-  part_links : (held' : List ℕ) → links_noted F cs held' i q d ≡ noted held' (cell_next cs i) q d
+  part_links : links_noted F cs held i q d ≡ noted held (cell_next cs i) q d
   unfolding links_noted
-  part_links held' = noted_none (noted held' (cell_next cs i) q d) (child_of cs i) _ _ (child_part cs i part_words_of.kind_is)
+  part_links = noted_none (noted held (cell_next cs i) q d) (child_of cs i) _ _ (child_part cs i part_words_of.kind_is)
 
-  part_notes : (held' : List ℕ) (at' : ℕ) → at ≤ at' → ((j : ℕ) → j < m → get_or held' j 0 ≡ get_or held j 0) → m ≤ length held' → cell_next cs i * 2 ≤ m → cell_next cs i ≤ 4294967295
-      → Noted (noted held' (cell_next cs i) q d) m at' (i + 1) (after_part w q d us later os)
-  part_notes held' at' more same wide rx bx =
+  part_notes : (at' : ℕ) → at ≤ at' → m ≤ length held → cell_next cs i * 2 ≤ m → cell_next cs i ≤ 4294967295
+      → Noted (noted held (cell_next cs i) q d) m at' (i + 1) (after_part w q d us later os)
+  part_notes at' more wide rx bx =
       let e₂ : i + nodes (part s l us later) ≡ i + 1 + nodes later = omega (arith, part_sizes) in
-      let old : Noted held' m at' (i + 1 + nodes later) os =
-      noted_same held held' m at at' (i + 1 + nodes later) os more (λ j b c. same j c) (subst (λ (z : ℕ). Noted held m at z os) e₂ n.rest) in
-      noted_push held' m at' (i + 1) (w + length us) q d later os (cell_next cs i) part_words_of.next_is wide rx bx (omega (arith, n.deep)) (omega (arith, n.above)) old
+      let old : Noted held m at' (i + 1 + nodes later) os =
+      noted_same held held m at at' (i + 1 + nodes later) os more (λ j b c. refl) (subst (λ (z : ℕ). Noted held m at z os) e₂ n.rest) in
+      noted_push held m at' (i + 1) (w + length us) q d later os (cell_next cs i) part_words_of.next_is wide rx bx (omega (arith, n.deep)) (omega (arith, n.above)) old
 
   part_turn : Turn T F cs ws held m at i (left_lines F (p ∷ os)) q d
   part_turn = record {
@@ -272,13 +272,13 @@ module _ (T F : ℕ) (cs ws held : List ℕ) (m at i w q d s l : ℕ) (us : List
     packed_here = λ e. part_here;
     first_room = omega (arith, child_part cs i part_words_of.kind_is);
     next_room = part_next_fits;
-    goes_on = λ held' at' e same wide ry rx by bx.
-        rw (part_links held') (record {
+    goes_on = λ at' e wide ry rx by bx.
+        rw part_links (record {
           opens = after_part w q d us later os;
           cells_are = part_next cs i w q d s l us later os h;
           lines_are = refl;
           good = after_part_good T ws w q d s l us later os a.0.fits a.0.holds a.1;
-          notes = part_notes held' at' (omega (arith, e)) same wide rx bx;
+          notes = part_notes at' (omega (arith, e)) wide rx bx;
         });
   }
 

@@ -50,33 +50,34 @@ pub record Ready (cs : List ℕ) (i q d : ℕ) : Type 0 where
   pub ends : q + cell_position cs i + cell_length cs i ≤ 4294967295
   pub shallow : d < 4294967295
 
--- its line, if it has one, can be written at `at` of `room` words
-pub record LineReady (F : ℕ) (cs : List ℕ) (i q d room at : ℕ) : Type 0 where
+-- its line, if it has one, has room in `room` words
+pub record LineReady (F : ℕ) (cs : List ℕ) (i q d room : ℕ) : Type 0 where
   pub ready : Ready cs i q d
-  pub fits : at + length (own_line F cs i q d) ≤ room
+  pub fits : length (own_line F cs i q d) ≤ room
 
--- It is a part, and its lines can be written so, with `work` words of work from `stack` on.
-pub record PartLinesReady (F : ℕ) (cs ws : List ℕ) (i q d work stack room at : ℕ) : Type 0 where
+-- It is a part, its lines have room, and there are `ends` words for the end indices of its records.
+pub record PartLinesReady (F : ℕ) (cs ws : List ℕ) (i q d ends room : ℕ) : Type 0 where
   pub is : cell_kind cs i ≡ 2
   pub ready : Ready cs i q d
   pub inside : cell_first cs i + cell_count cs i ≤ length ws
-  pub lent : part_lines.Lent F (q + cell_position cs i) d (part_at cs ws i) work stack room at
+  pub lent : part_lines.Lent F (q + cell_position cs i) d (part_at cs ws i) ends room
 
 -- a cell of either kind
-pub record CellReady (F : ℕ) (cs ws : List ℕ) (i q d work stack room at : ℕ) : Type 0 where
+pub record CellReady (F : ℕ) (cs ws : List ℕ) (i q d ends room : ℕ) : Type 0 where
   pub inside : i * cell_width + cell_width ≤ length cs
-  pub line : (cell_kind cs i ≡ 2 → ⊥) → LineReady F cs i q d room at
-  pub packed : cell_kind cs i ≡ 2 → PartLinesReady F cs ws i q d work stack room at
+  pub line : (cell_kind cs i ≡ 2 → ⊥) → LineReady F cs i q d room
+  pub packed : cell_kind cs i ≡ 2 → PartLinesReady F cs ws i q d ends room
 
--- The n cells and the packed words, of 16 bits, are accepted, for some type count; each cell has two words of the work slice, each packed
--- record one, and the lines have room and are no more than 32 bits can number.
-pub record Lent (F S : ℕ) (cs ws : List ℕ) (n work room : ℕ) : Type 0 where
+-- The cells and the packed words, of 16 bits, are accepted, for some type count; there are two words for notes for each cell, a word for
+-- the end index of each packed record, and the lines have room and are no more than 32 bits can number.
+pub record Lent (F S : ℕ) (cs ws : List ℕ) (notes ends room : ℕ) : Type 0 where
   pub types : ℕ
   pub types_fit : types ≤ 65536
   pub fits : S ≤ 4294967295
   pub short : Short ws
-  pub whole : n * cell_width ≡ length cs
+  pub whole : length cs / cell_width * cell_width ≡ length cs
   pub accepted : bad_cell types S cs ws ≡ None
-  pub work_fits : n * 2 + length ws / record_width ≤ work
+  pub notes_fit : length cs / cell_width * 2 ≤ notes
+  pub ends_fit : length ws / record_width ≤ ends
   pub few : length (list_cells F S cs ws) ≤ 17179869180
   pub lines_fit : length (list_cells F S cs ws) ≤ room

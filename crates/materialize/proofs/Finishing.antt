@@ -73,25 +73,23 @@ same_from zero (x ∷ a) (y ∷ b) e f = ap₂ ◌∷◌ (f 0 (omega arith)) (sa
 same_from (suc k) (x ∷ a) (y ∷ b) e f = same_from k a b (omega arith) (λ j h. f (suc j) (omega arith))
 
 -- all cells are written
-pub record Writing (held₀ held out₀ out cs ws : List ℕ) (total i cell sp mp : ℕ) : Type 0 where
+pub record Writing (roots₀ roots marks out₀ out cs ws : List ℕ) (i cell sp mp : ℕ) : Type 0 where
   pub few : i * cell_width ≤ length cs
-  pub held_size : length held ≡ length held₀
   pub out_size : length out ≡ length out₀
-  pub at : At held out cs ws total i cell sp mp
-  pub behind : Behind (total * cell_width) out₀ out
+  pub at : At roots marks out cs ws (length roots₀) i cell sp mp
+  pub behind : Behind (length roots₀ * cell_width) out₀ out
 
-pub writing_start : {held out cs ws : List ℕ} {total : ℕ} → Ready held out cs ws total → Writing held held out out cs ws total (length cs / cell_width) total 0 0
+pub writing_start : {roots marks out cs ws : List ℕ} → Ready roots marks out cs ws → Writing roots roots marks out out cs ws (length cs / cell_width) (length roots) 0 0
 unfolding decode_from unpacked nodes siblings
-writing_start {held} {out} {cs} {ws} {total} p =
+writing_start {roots} {marks} {out} {cs} {ws} p =
     let e : length cs / cell_width - length cs / cell_width ≡ 0 = omega arith in
     let z : ahead cs ws (length cs / cell_width) ≡ nil = ap (λ (k : ℕ). decode_from ws k (drop (length cs / cell_width * cell_width) cs)) e in
     record {
       few = omega arith;
-      held_size = refl;
       out_size = refl;
       at = record {
         made = rw z (record { cells = tt; roots = tt; size = omega arith });
-        marks = rw z tt;
+        marked = rw z tt;
         all = rw z;
         kept = rw z;
         few = omega arith;
@@ -102,14 +100,15 @@ writing_start {held} {out} {cs} {ws} {total} p =
       behind = record { same = λ j h. refl };
     }
 
-pub writing_end : {held₀ held out₀ out cs ws : List ℕ} {total i cell sp mp : ℕ} → Writing held₀ held out₀ out cs ws total i cell sp mp → i ≤ 0
+pub writing_end : {roots₀ roots marks out₀ out cs ws : List ℕ} {i cell sp mp : ℕ} → Writing roots₀ roots marks out₀ out cs ws i cell sp mp → i ≤ 0
     → out ≡ front (cells 1 0 (unpacked (ahead cs ws 0))) out₀
 unfolding cells_before
-writing_end {held₀} {held} {out₀} {out} {cs} {ws} {total} {i} {cell} {sp} {mp} v l =
+writing_end {roots₀} {roots} {marks} {out₀} {out} {cs} {ws} {i} {cell} {sp} {mp} v l =
     let z : i ≡ 0 = omega arith in
-    let a : At held out cs ws total 0 cell sp mp = subst (λ (k : ℕ). At held out cs ws total k cell sp mp) z v.at in
+    let total : ℕ = length roots₀ in
+    let a : At roots marks out cs ws total 0 cell sp mp = subst (λ (k : ℕ). At roots marks out cs ws total k cell sp mp) z v.at in
     let ts = unpacked (ahead cs ws 0) in
-    let m : Made held out total 0 ts = subst (λ (k : ℕ). Made held out total k ts) a.before a.made in
+    let m : Made roots out total 0 ts = subst (λ (k : ℕ). Made roots out total k ts) a.before a.made in
     let off : (0 + nodes ts) * cell_width ≡ total * cell_width = omega (arith, m.size) in
     let len : length (cells 1 0 ts) ≡ total * cell_width = length_cells 1 0 ts ∙ omega (arith, m.size) in
     out_cells out 0 0 ts (omega (arith, m.size, a.room.wide)) m.cells

@@ -15,7 +15,7 @@ use Rattle.tree.specs.Materialise.{within, beyond}
 use Rattle.tree.proofs.PackLaws.{nodes-⊕}
 use Rattle.tree.proofs.ListingLaws.{⊕-assoc}
 use Rattle.materialize.specs.Steps.{leads, Out, Roots, Made, Behind, so_far, Open, Moved}
-use Rattle.materialize.proofs.Written.{siblings-⊕, siblings_nodes, out_frame, out_split, out_join, roots_after}
+use Rattle.materialize.proofs.Written.{siblings-⊕, out_frame, out_split, out_join, roots_after}
 
 pub nodes_relative : (q : ℕ) (ts : Trees) → nodes (relative q ts) ≡ nodes ts
 unfolding relative nodes
@@ -136,8 +136,8 @@ pub record Moving (held out : List ℕ) (limit q left n c : ℕ) (ts rest : Tree
   pub whole : done ⊕ (relative q (within ahead over) ⊕ so_far (beyond ahead over) rest) ≡ relative q (within ts k) ⊕ so_far (beyond ts k) rest
   pub stays : beyond ahead over ≡ beyond ts k
 
-module _ (held out : List ℕ) (low sp limit q : ℕ) (p : Open held out low sp limit) where
-  pub moving_start : Moving held out limit q sp p.total p.cell p.trees p.rest p.count
+module _ (roots out : List ℕ) (limit q : ℕ) (p : Open roots out limit) where
+  pub moving_start : Moving p.held out limit q (p.low + length roots) p.total p.cell p.trees p.rest p.count
   unfolding ◌⊕◌ nodes
   moving_start = record {
     done = nil;
@@ -167,10 +167,6 @@ module _ (held out : List ℕ) (limit q left n c : ℕ) (ts rest : Trees) (k : �
 
       here_is : (v.over ≡ 0) ⊎ (left ≤ siblings rest) → relative q (within v.ahead v.over) ⊕ so_far (beyond v.ahead v.over) rest ≡ so_far v.ahead rest
       here_is e = rw ((ends e).0, (ends e).1)
-
-  -- how far the stack reaches
-  pub moving_few : left ≤ n
-  moving_few = omega (arith, v.here, siblings_nodes (so_far v.ahead rest), v.made.size, nodes-⊕ v.done (so_far v.ahead rest))
 
 -- the next one: its number, and what becomes of it
 pub record Next (held out : List ℕ) (limit q left n c : ℕ) (ts rest : Trees) (k over r : ℕ) : Type 0 where
@@ -226,50 +222,49 @@ module _ (held out : List ℕ) (limit q left n c : ℕ) (ts rest : Trees) (k : �
   moving_next v = next_by v.done v.ahead v.over v.made v.here v.over_is v.whole v.stays
 
 -- the loop: where the work stands for all trees that the stack may hold
-pub record Going (held out₀ out : List ℕ) (low sp limit q left : ℕ) : Type 0 where
+pub record Going (roots out₀ out : List ℕ) (limit q left : ℕ) : Type 0 where
   pub size : length out ≡ length out₀
-  pub at : (p : Open held out₀ low sp limit) → Moving held out limit q left p.total p.cell p.trees p.rest p.count
-  pub behind : (p : Open held out₀ low sp limit) → Behind (p.total * cell_width) out₀ out
+  pub at : (p : Open roots out₀ limit) → Moving p.held out limit q (p.low + left) p.total p.cell p.trees p.rest p.count
+  pub behind : (p : Open roots out₀ limit) → Behind (p.total * cell_width) out₀ out
 
-pub going_start : {held out : List ℕ} {low sp limit q : ℕ} → Going held out out low sp limit q sp
-going_start {held} {out} {low} {sp} {limit} {q} = record {
+pub going_start : {roots out : List ℕ} {limit q : ℕ} → Going roots out out limit q (length roots)
+going_start {roots} {out} {limit} {q} = record {
   size = refl;
-  at = moving_start held out low sp limit q;
+  at = moving_start roots out limit q;
   behind = λ p. record { same = λ j h. refl };
 }
 
-module _ {held out₀ out : List ℕ} {low sp limit q left : ℕ} (g : Going held out₀ out low sp limit q left) where
-  next_of : (p : Open held out₀ low sp limit) → low < left
-      → Next held out limit q left p.total p.cell p.trees p.rest p.count (g.at p).over (get_or held (left - 1) 0)
-  next_of p l =
-      moving_next held out limit q left p.total p.cell p.trees p.rest p.count (omega (arith, g.size, p.room.wide)) (omega (arith, p.left)) (g.at p)
+module _ {roots out₀ out : List ℕ} {limit q left : ℕ} (g : Going roots out₀ out limit q left) where
+  moved_by : left ≤ length roots → ((p : Open roots out₀ limit) → ((g.at p).over ≡ 0) ⊎ (p.low + left ≤ siblings p.rest)) → Moved roots out₀ out limit q left
+  moved_by few e =
+      let ended : (p : Open roots out₀ limit) → (Made p.held out p.total p.cell (relative q (within p.trees p.count) ⊕ so_far (beyond p.trees p.count) p.rest)) × (siblings (so_far (beyond p.trees p.count) p.rest) ≡ p.low + left) = λ p. moving_end p.held out limit q (p.low + left) p.total p.cell p.trees p.rest p.count (g.at p) (e p) in
+      record { few = few; made = λ p. (ended p).0; left = λ p. (ended p).1; behind = g.behind }
 
-  -- there is a word for it
-  pub going_reads : Open held out₀ low sp limit → low < left → left - 1 < length held
-  going_reads p l = omega (arith, moving_few held out limit q left p.total p.cell p.trees p.rest p.count (g.at p), p.room.deep)
+  -- none are left
+  pub going_none : left ≤ 0 → Moved roots out₀ out limit q 0
+  going_none m = let e : left ≡ 0 = omega arith in subst (Moved roots out₀ out limit q) e (moved_by (omega arith) (λ p. inr (omega (arith, p.left))))
 
-  pub going_fits : Open held out₀ low sp limit → low < left → get_or held (left - 1) 0 * cell_width + position_place < length out
-  going_fits p l = omega (arith, (next_of p l).inside, g.size, p.room.wide)
+  module _ (l : 0 < left) (here : left ≤ length roots) where
+    next_of : (p : Open roots out₀ limit) → Next p.held out limit q (p.low + left) p.total p.cell p.trees p.rest p.count (g.at p).over (get_or roots (left - 1) 0)
+    next_of p =
+        let e : p.low + (left - 1) ≡ p.low + left - 1 = omega arith in
+        rw (p.read (left - 1) (omega arith) ∙ ap (λ (k : ℕ). get_or p.held k 0) e)
+        (moving_next p.held out limit q (p.low + left) p.total p.cell p.trees p.rest p.count (omega (arith, g.size, p.room.wide)) (omega (arith, p.left)) (g.at p))
 
-  pub going_next : low < left → get_or held (left - 1) 0 < limit → {x : ℕ} → x ≡ cell_position out (get_or held (left - 1) 0) - q
-      → Going held out₀ (set out (get_or held (left - 1) 0 * cell_width + position_place) x) low sp limit q (left - 1)
-  going_next l m {x} f = record {
-    size = length-set out (get_or held (left - 1) 0 * cell_width + position_place) x ∙ g.size;
-    at = λ p. rw f ((next_of p l).moved m);
-    behind = λ p. record { same = λ j h. rw f ((next_of p l).behind j h) ∙ (g.behind p).same j h };
-  }
+    pub going_fits : Open roots out₀ limit → get_or roots (left - 1) 0 * cell_width + position_place < length out
+    going_fits p = omega (arith, (next_of p).inside, g.size, p.room.wide)
 
-  moved_by : ((p : Open held out₀ low sp limit) → ((g.at p).over ≡ 0) ⊎ (left ≤ siblings p.rest)) → Moved held out₀ out low sp limit q left
-  moved_by e =
-      let ended : (p : Open held out₀ low sp limit) → (Made held out p.total p.cell (relative q (within p.trees p.count) ⊕ so_far (beyond p.trees p.count) p.rest)) × (siblings (so_far (beyond p.trees p.count) p.rest) ≡ left) = λ p. moving_end held out limit q left p.total p.cell p.trees p.rest p.count (g.at p) (e p) in
-      record { made = λ p. (ended p).0; left = λ p. (ended p).1; behind = g.behind }
+    pub going_next : get_or roots (left - 1) 0 < limit → {x : ℕ} → x ≡ cell_position out (get_or roots (left - 1) 0) - q
+        → Going roots out₀ (set out (get_or roots (left - 1) 0 * cell_width + position_place) x) limit q (left - 1)
+    going_next m {x} f = record {
+      size = length-set out (get_or roots (left - 1) 0 * cell_width + position_place) x ∙ g.size;
+      at = λ p.
+          let e : p.low + left - 1 ≡ p.low + (left - 1) = omega arith in
+          let out' : List ℕ = set out (get_or roots (left - 1) 0 * cell_width + position_place) x in
+          let moved : Moving p.held out' limit q (p.low + left - 1) p.total p.cell p.trees p.rest p.count = rw f ((next_of p).moved m) in
+          subst (λ (k : ℕ). Moving p.held out' limit q k p.total p.cell p.trees p.rest p.count) e moved;
+      behind = λ p. record { same = λ j h. rw f ((next_of p).behind j h) ∙ (g.behind p).same j h };
+    }
 
-  pub going_limit : low < left → limit ≤ get_or held (left - 1) 0 → Moved held out₀ out low sp limit q (left - 1 + 1)
-  going_limit l m = let e : left ≡ left - 1 + 1 = omega arith in subst (Moved held out₀ out low sp limit q) e (moved_by (λ p. inl ((next_of p l).at_limit m)))
-
-  -- none but those at the bottom are left
-  pub going_none : Open held out₀ low sp limit → left ≤ low → Moved held out₀ out low sp limit q low
-  going_none p m =
-      let v = g.at p in
-      let e : left ≡ low = omega (arith, v.here, siblings_so_far v.ahead p.rest, p.left) in
-      subst (Moved held out₀ out low sp limit q) e (moved_by (λ o. inr (omega (arith, o.left))))
+    pub going_limit : limit ≤ get_or roots (left - 1) 0 → Moved roots out₀ out limit q (left - 1 + 1)
+    going_limit m = let e : left ≡ left - 1 + 1 = omega arith in subst (Moved roots out₀ out limit q) e (moved_by here (λ p. inl ((next_of p).at_limit m)))

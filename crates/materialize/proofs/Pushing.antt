@@ -155,9 +155,6 @@ module _ (w o : List ℕ) (n c : ℕ) (ks bs : Trees) (m : Made w o n (suc c) (k
       size = total;
     }
 
-  pub kept_behind : (j : ℕ) → n ≤ j → get_or (set w kept c) j 0 ≡ get_or w j 0
-  kept_behind j h = get_or-set_other w kept j c 0 (λ e. omega (arith, few))
-
   pub out_behind : (k i s l j : ℕ) → n * cell_width ≤ j
       → get_or (put o₁ (c * cell_width) (k ∷ i ∷ s ∷ l ∷ first_link c kept sp ∷ (sp - kept) ∷ next_link w kept ∷ [])) j 0 ≡ get_or o j 0
   out_behind k i s l j h =
@@ -190,6 +187,5 @@ pub push_law : (w o o₁ o₃ : List ℕ) (c kept sp k i s l first next : ℕ) �
     → Put w (set w kept c) o o₃ c kept sp k i s l
 push_law w o o₁ o₃ c kept sp k i s l first next ef en e₁ e₃ = record {
   made = λ p t ek ei. rw (e₃, e₁, ef, en, ek, ei) (rw (p.left, p.all) at (pushed w o p.total c p.kids p.rest p.made p.room t s l));
-  held_behind = λ p. record { same = λ j h. rw p.left at (kept_behind w o p.total c p.kids p.rest p.made p.room j h) };
   out_behind = λ p. record { same = λ j h. rw (e₃, e₁, ef, en) (rw (p.left, p.all) at (out_behind w o p.total c p.kids p.rest p.made p.room k i s l j h)) };
 }

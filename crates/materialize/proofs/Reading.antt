@@ -12,8 +12,7 @@ use Rattle.tree.proofs.ListingLaws.{⊕-assoc}
 use Rattle.tree.proofs.PackLaws.{nodes-⊕}
 use Rattle.tree.proofs.SizeLaws.{nodes_unpack}
 use Rattle.tree.proofs.CellLaws.{shift, unpack_shift}
-use Rattle.materialize.specs.Steps.{Made, so_far, unpacked, Marks}
-use Rattle.materialize.proofs.Written.{siblings_nodes, roots_frame}
+use Rattle.materialize.specs.Steps.{so_far, unpacked, Marks}
 use Rattle.materialize.proofs.Handing.{nodes_relative}
 
 pub unpacked-⊕ : (ts us : Trees) → unpacked (ts ⊕ us) ≡ unpacked ts ⊕ unpacked us
@@ -54,64 +53,56 @@ following_all (tree t s l kids rest) (suc n) h = absurd (omega arith)
 following_all (part s l ws rest) zero h = refl
 following_all (part s l ws rest) (suc n) h = absurd (omega arith)
 
-pub marks_following : (w : List ℕ) (b : ℕ) (ts : Trees) (n : ℕ) → Marks w b ts → Marks w b (following ts n)
+pub marks_following : (w : List ℕ) (ts : Trees) (n : ℕ) → Marks w ts → Marks w (following ts n)
 unfolding following
-marks_following w b nil n h = tt
-marks_following w b (tree t s l kids rest) zero h = h
-marks_following w b (tree t s l kids rest) (suc n) h = marks_following w b rest n h.after
-marks_following w b (part s l ws rest) zero h = h
-marks_following w b (part s l ws rest) (suc n) h = marks_following w b rest n h.after
+marks_following w nil n h = tt
+marks_following w (tree t s l kids rest) zero h = h
+marks_following w (tree t s l kids rest) (suc n) h = marks_following w rest n h.after
+marks_following w (part s l ws rest) zero h = h
+marks_following w (part s l ws rest) (suc n) h = marks_following w rest n h.after
 
-pub marks_frame : (w w' : List ℕ) (b : ℕ) (ts : Trees) → ((j : ℕ) → b ≤ j → j < b + siblings ts → get_or w' j 0 ≡ get_or w j 0) → Marks w b ts → Marks w' b ts
+pub marks_frame : (w w' : List ℕ) (ts : Trees) → ((j : ℕ) → j < siblings ts → get_or w' j 0 ≡ get_or w j 0) → Marks w ts → Marks w' ts
 unfolding siblings
-marks_frame w w' b nil f h = tt
-marks_frame w w' b (tree t s l kids rest) f h = record { at = f (b + siblings rest) (omega arith) (omega arith) ∙ h.at; after = marks_frame w w' b rest (λ j x y. f j x (omega arith)) h.after }
-marks_frame w w' b (part s l ws rest) f h = record { at = f (b + siblings rest) (omega arith) (omega arith) ∙ h.at; after = marks_frame w w' b rest (λ j x y. f j x (omega arith)) h.after }
+marks_frame w w' nil f h = tt
+marks_frame w w' (tree t s l kids rest) f h = record { at = f (siblings rest) (omega arith) ∙ h.at; after = marks_frame w w' rest (λ j x. f j (omega arith)) h.after }
+marks_frame w w' (part s l ws rest) f h = record { at = f (siblings rest) (omega arith) ∙ h.at; after = marks_frame w w' rest (λ j x. f j (omega arith)) h.after }
 
 -- the mark of the last one that is taken
-pub mark_at : (w : List ℕ) (b : ℕ) (ts : Trees) (n : ℕ) → Marks w b ts → siblings ts - n < siblings ts → get_or w (b + (siblings ts - n)) 0 ≡ siblings (unpacked (following ts n))
+pub mark_at : (w : List ℕ) (ts : Trees) (n : ℕ) → Marks w ts → siblings ts - n < siblings ts → get_or w (siblings ts - n) 0 ≡ siblings (unpacked (following ts n))
 unfolding following siblings
-mark_at w b nil n h l = absurd (omega arith)
-mark_at w b (tree t s l kids rest) zero h z = absurd (omega arith)
-mark_at w b (tree t s l kids rest) (suc zero) h z =
-    let e : b + (suc (siblings rest) - 1) ≡ b + siblings rest = omega arith in
+mark_at w nil n h l = absurd (omega arith)
+mark_at w (tree t s l kids rest) zero h z = absurd (omega arith)
+mark_at w (tree t s l kids rest) (suc zero) h z =
+    let e : suc (siblings rest) - 1 ≡ siblings rest = omega arith in
     ap (λ (k : ℕ). get_or w k 0) e ∙ h.at ∙ ap (λ x. siblings (unpacked x)) (sym (following_zero rest))
-mark_at w b (tree t s l kids rest) (suc (suc n)) h z = go rest h.at h.after (mark_at w b rest (suc n))
+mark_at w (tree t s l kids rest) (suc (suc n)) h z = go rest h.at h.after (mark_at w rest (suc n))
   where
-    go : (us : Trees) → get_or w (b + siblings us) 0 ≡ siblings (unpacked us) → Marks w b us
-        → (Marks w b us → siblings us - suc n < siblings us → get_or w (b + (siblings us - suc n)) 0 ≡ siblings (unpacked (following us (suc n))))
-        → get_or w (b + (suc (siblings us) - suc (suc n))) 0 ≡ siblings (unpacked (following us (suc n)))
+    go : (us : Trees) → get_or w (siblings us) 0 ≡ siblings (unpacked us) → Marks w us
+        → (Marks w us → siblings us - suc n < siblings us → get_or w (siblings us - suc n) 0 ≡ siblings (unpacked (following us (suc n))))
+        → get_or w (suc (siblings us) - suc (suc n)) 0 ≡ siblings (unpacked (following us (suc n)))
     go nil at m more = ap (λ (k : ℕ). get_or w k 0) (omega arith) ∙ at
     go (tree t₂ s₂ l₂ kids₂ us) at m more =
-        let e : b + (suc (suc (siblings us)) - suc (suc n)) ≡ b + (suc (siblings us) - suc n) = omega arith in
+        let e : suc (suc (siblings us)) - suc (suc n) ≡ suc (siblings us) - suc n = omega arith in
         ap (λ (k : ℕ). get_or w k 0) e ∙ more m (omega arith)
     go (part s₂ l₂ ws₂ us) at m more =
-        let e : b + (suc (suc (siblings us)) - suc (suc n)) ≡ b + (suc (siblings us) - suc n) = omega arith in
+        let e : suc (suc (siblings us)) - suc (suc n) ≡ suc (siblings us) - suc n = omega arith in
         ap (λ (k : ℕ). get_or w k 0) e ∙ more m (omega arith)
-mark_at w b (part s l ws rest) zero h z = absurd (omega arith)
-mark_at w b (part s l ws rest) (suc zero) h z =
-    let e : b + (suc (siblings rest) - 1) ≡ b + siblings rest = omega arith in
+mark_at w (part s l ws rest) zero h z = absurd (omega arith)
+mark_at w (part s l ws rest) (suc zero) h z =
+    let e : suc (siblings rest) - 1 ≡ siblings rest = omega arith in
     ap (λ (k : ℕ). get_or w k 0) e ∙ h.at ∙ ap (λ x. siblings (unpacked x)) (sym (following_zero rest))
-mark_at w b (part s l ws rest) (suc (suc n)) h z = go rest h.at h.after (mark_at w b rest (suc n))
+mark_at w (part s l ws rest) (suc (suc n)) h z = go rest h.at h.after (mark_at w rest (suc n))
   where
-    go : (us : Trees) → get_or w (b + siblings us) 0 ≡ siblings (unpacked us) → Marks w b us
-        → (Marks w b us → siblings us - suc n < siblings us → get_or w (b + (siblings us - suc n)) 0 ≡ siblings (unpacked (following us (suc n))))
-        → get_or w (b + (suc (siblings us) - suc (suc n))) 0 ≡ siblings (unpacked (following us (suc n)))
+    go : (us : Trees) → get_or w (siblings us) 0 ≡ siblings (unpacked us) → Marks w us
+        → (Marks w us → siblings us - suc n < siblings us → get_or w (siblings us - suc n) 0 ≡ siblings (unpacked (following us (suc n))))
+        → get_or w (suc (siblings us) - suc (suc n)) 0 ≡ siblings (unpacked (following us (suc n)))
     go nil at m more = ap (λ (k : ℕ). get_or w k 0) (omega arith) ∙ at
     go (tree t₂ s₂ l₂ kids₂ us) at m more =
-        let e : b + (suc (suc (siblings us)) - suc (suc n)) ≡ b + (suc (siblings us) - suc n) = omega arith in
+        let e : suc (suc (siblings us)) - suc (suc n) ≡ suc (siblings us) - suc n = omega arith in
         ap (λ (k : ℕ). get_or w k 0) e ∙ more m (omega arith)
     go (part s₂ l₂ ws₂ us) at m more =
-        let e : b + (suc (suc (siblings us)) - suc (suc n)) ≡ b + (suc (siblings us) - suc n) = omega arith in
+        let e : suc (suc (siblings us)) - suc (suc n) ≡ suc (siblings us) - suc n = omega arith in
         ap (λ (k : ℕ). get_or w k 0) e ∙ more m (omega arith)
-
--- the numbers stay where the words before n stay
-pub made_frame : (w w' o : List ℕ) (n c : ℕ) (ts : Trees) → ((j : ℕ) → j < n → get_or w' j 0 ≡ get_or w j 0) → Made w o n c ts → Made w' o n c ts
-made_frame w w' o n c ts f m = record {
-  cells = m.cells;
-  roots = roots_frame w w' c ts (λ j h. f j (omega (arith, siblings_nodes ts, m.size))) m.roots;
-  size = m.size;
-}
 
 -- relative starts after a shift
 relative_shift : (k q : ℕ) (ts : Trees) → relative (k + q) (shift k ts) ≡ relative q ts

@@ -1,5 +1,5 @@
 -- What the writer of materialised cells keeps: trees without parts, written as cells from the last one back, with the numbers of the
--- siblings that have no parent yet in the work slice. Only internal functions cite these.
+-- siblings that have no parent yet in one slice, and marks of how many trees came of a sibling in another. Only internal functions cite these.
 use Rattle.std.specs.Prelude.{◌≡◌, List, ℕ, zero, suc, ◌+◌, ◌-◌, ◌*◌, ◌/◌, ◌≤◌, ◌<◌, cond, ◌⊎◌, ltb, eqb, length, get_or, set, drop}
 use Rattle.std.specs.Prelude.{Option}
 use Rattle.words.specs.Words.{start_of, record_width}
@@ -92,15 +92,18 @@ pub record Fit (held out : List ℕ) (c kept sp : ℕ) : Type 0 where
 -- what a tree leaves that is written
 pub record Put (held held' out out' : List ℕ) (c kept sp k i s l : ℕ) : Type 0 where
   pub made : (p : Taken held out c kept sp) (t : Option ℕ) → k ≡ kind t → i ≡ id_word t → Made held' out' p.total c (tree t s l p.kids p.rest)
-  pub held_behind : (p : Taken held out c kept sp) → Behind p.total held held'
   pub out_behind : (p : Taken held out c kept sp) → Behind (p.total * cell_width) out out'
 
 -- the trees of a part so far, with starts from the part's parent, before the siblings that follow the part
 abbrev pub so_far : Trees → Trees → Trees
 so_far ts rest = relative 0 ts ⊕ rest
 
--- The trees of a part, of which those of the next `count` cells are children of the record before: up to the cell `limit`.
-pub record Open (held out : List ℕ) (low sp limit : ℕ) : Type 0 where
+-- The trees of a part, of which those of the next `count` cells are children of the record before: up to the cell `limit`. Their numbers
+-- stand in `roots`, a part of the stack `held`.
+pub record Open (roots out : List ℕ) (limit : ℕ) : Type 0 where
+  pub held : List ℕ
+  pub low : ℕ
+  pub read : (j : ℕ) → j < length roots → get_or roots j 0 ≡ get_or held (low + j) 0
   pub total : ℕ
   pub cell : ℕ
   pub trees : Trees
@@ -109,15 +112,16 @@ pub record Open (held out : List ℕ) (low sp limit : ℕ) : Type 0 where
   pub made : Made held out total cell (so_far trees rest)
   pub room : Room held out total
   pub left : siblings rest ≡ low
-  pub all : siblings (so_far trees rest) ≡ sp
+  pub all : siblings (so_far trees rest) ≡ low + length roots
   pub limit_is : limit ≡ cell + count
 
--- They count their starts from q; r siblings are left.
-pub record Moved (held out out' : List ℕ) (low sp limit q r : ℕ) : Type 0 where
-  pub made : (p : Open held out low sp limit)
-      → Made held out' p.total p.cell (relative q (within p.trees p.count) ⊕ so_far (beyond p.trees p.count) p.rest)
-  pub left : (p : Open held out low sp limit) → siblings (so_far (beyond p.trees p.count) p.rest) ≡ r
-  pub behind : (p : Open held out low sp limit) → Behind (p.total * cell_width) out out'
+-- They count their starts from q; r of the trees are left.
+pub record Moved (roots out out' : List ℕ) (limit q r : ℕ) : Type 0 where
+  pub few : r ≤ length roots
+  pub made : (p : Open roots out limit)
+      → Made p.held out' p.total p.cell (relative q (within p.trees p.count) ⊕ so_far (beyond p.trees p.count) p.rest)
+  pub left : (p : Open roots out limit) → siblings (so_far (beyond p.trees p.count) p.rest) ≡ p.low + r
+  pub behind : (p : Open roots out limit) → Behind (p.total * cell_width) out out'
 
 -- how many records stand in one, by its end index n and its offset
 unfoldable pub inner_count : (n off : ℕ) → ℕ
@@ -135,7 +139,6 @@ pub record Packed (held out : List ℕ) (c p sp : ℕ) (ws : List ℕ) : Type 0 
 pub record Unpacked (held held' out out' : List ℕ) (c p sp : ℕ) (ws : List ℕ) (r : ℕ) : Type 0 where
   pub made : (g : Packed held out c p sp ws) → Made held' out' g.total c (so_far (unpack p 0 ws) g.rest)
   pub left : (g : Packed held out c p sp ws) → siblings (so_far (unpack p 0 ws) g.rest) ≡ r
-  pub held_behind : (g : Packed held out c p sp ws) → Behind g.total held held'
   pub out_behind : (g : Packed held out c p sp ws) → Behind (g.total * cell_width) out out'
 
 -- the trees with their parts unpacked; all starts are counted from the parent's
@@ -157,22 +160,22 @@ cells_before cs (suc i) = cells_before cs i + weight (cell_kind cs i) (cell_coun
 abbrev pub ahead : (cs ws : List ℕ) (i : ℕ) → Trees
 ahead cs ws i = decode_from ws (length cs / cell_width - i) (drop (i * cell_width) cs)
 
--- How many trees come of the siblings after each of these stands in `held` from n on, the last one's in front.
-abbrev pub Marks : (held : List ℕ) (n : ℕ) → Trees → Type 0
-Marks held n nil = Unit {0}
-Marks held n (tree t s l kids rest) = record { at : get_or held (n + siblings rest) 0 ≡ siblings (unpacked rest); after : Marks held n rest }
-Marks held n (part s l ws rest) = record { at : get_or held (n + siblings rest) 0 ≡ siblings (unpacked rest); after : Marks held n rest }
+-- How many trees come of the siblings after each of these stands in `marks`, the last one's in front.
+abbrev pub Marks : (marks : List ℕ) → Trees → Type 0
+Marks marks nil = Unit {0}
+Marks marks (tree t s l kids rest) = record { at : get_or marks (siblings rest) 0 ≡ siblings (unpacked rest); after : Marks marks rest }
+Marks marks (part s l ws rest) = record { at : get_or marks (siblings rest) 0 ≡ siblings (unpacked rest); after : Marks marks rest }
 
 -- The cells from i on are written: `sp` trees and `mp` siblings have no parent yet, and `cell` cells are still to come.
-pub record At (held out cs ws : List ℕ) (total i cell sp mp : ℕ) : Type 0 where
-  pub made : Made held out total cell (unpacked (ahead cs ws i))
-  pub marks : Marks held total (ahead cs ws i)
+pub record At (roots marks out cs ws : List ℕ) (total i cell sp mp : ℕ) : Type 0 where
+  pub made : Made roots out total cell (unpacked (ahead cs ws i))
+  pub marked : Marks marks (ahead cs ws i)
   pub all : siblings (unpacked (ahead cs ws i)) ≡ sp
   pub kept : siblings (ahead cs ws i) ≡ mp
   pub few : mp + i ≤ length cs / cell_width
   pub before : cell ≡ cells_before cs i
-  pub room : Room held out total
-  pub deep : total + length cs / cell_width ≤ length held
+  pub room : Room roots out total
+  pub deep : length cs / cell_width ≤ length marks
 
 -- what is used of a cell that breaks no rule, if it is a part
 pub record PartFits (cs ws : List ℕ) (i : ℕ) : Type 0 where
@@ -180,42 +183,42 @@ pub record PartFits (cs ws : List ℕ) (i : ℕ) : Type 0 where
   pub starts : (j : ℕ) → j * record_width + record_width ≤ length (part_at cs ws i) → cell_position cs i + start_of (part_at cs ws i) j < 4294967296
 
 -- how many of `mp` siblings are left when n are taken, and how many of `sp` trees
-unfoldable pub trees_left : (held : List ℕ) (total sp mp left : ℕ) → ℕ
-trees_left held total sp mp left = cond (ltb left mp) (get_or held (total + left) 0) sp
+unfoldable pub trees_left : (marks : List ℕ) (sp mp left : ℕ) → ℕ
+trees_left marks sp mp left = cond (ltb left mp) (get_or marks left 0) sp
 
 -- a cell that is a tree: kind 1, or kind 3 with the id 0
 abbrev pub Typed : (cs : List ℕ) (i : ℕ) → Type 0
 Typed cs i = (cell_kind cs i ≡ 1) ⊎ ((cell_kind cs i ≡ 3) × (cell_id cs i ≡ 0))
 
 -- the cell i can be written, after the cells behind it
-pub record NextCell (held out cs : List ℕ) (total i cell sp mp : ℕ) : Type 0 where
+pub record NextCell (roots marks out cs : List ℕ) (i cell sp mp : ℕ) : Type 0 where
   pub ws : List ℕ
-  pub at : At held out cs ws total (i + 1) cell sp mp
+  pub at : At roots marks out cs ws (length roots) (i + 1) cell sp mp
   pub inside : i * cell_width + cell_width ≤ length cs
   pub other : cell_kind cs i ≡ 2 → ⊥
   pub typed : Typed cs i
 
-pub record NextPart (held out cs ws : List ℕ) (total i cell sp mp : ℕ) : Type 0 where
-  pub at : At held out cs ws total (i + 1) cell sp mp
+pub record NextPart (roots marks out cs ws : List ℕ) (i cell sp mp : ℕ) : Type 0 where
+  pub at : At roots marks out cs ws (length roots) (i + 1) cell sp mp
   pub inside : i * cell_width + cell_width ≤ length cs
   pub is : cell_kind cs i ≡ 2
   pub fits : PartFits cs ws i
 
-pub record Wrote (held held' out out' cs ws : List ℕ) (total i cell sp mp cell' sp' mp' : ℕ) : Type 0 where
-  pub at : At held out cs ws total (i + 1) cell sp mp → At held' out' cs ws total i cell' sp' mp'
-  pub behind : At held out cs ws total (i + 1) cell sp mp → Behind (total * cell_width) out out'
+pub record Wrote (roots roots' marks marks' out out' cs ws : List ℕ) (i cell sp mp cell' sp' mp' : ℕ) : Type 0 where
+  pub at : At roots marks out cs ws (length roots) (i + 1) cell sp mp → At roots' marks' out' cs ws (length roots) i cell' sp' mp'
+  pub behind : At roots marks out cs ws (length roots) (i + 1) cell sp mp → Behind (length roots * cell_width) out out'
 
 -- the next cell, of either kind
-pub record Next (held out cs ws : List ℕ) (total i cell sp mp : ℕ) : Type 0 where
-  pub at : At held out cs ws total (i + 1) cell sp mp
+pub record Next (roots marks out cs ws : List ℕ) (i cell sp mp : ℕ) : Type 0 where
+  pub at : At roots marks out cs ws (length roots) (i + 1) cell sp mp
   pub inside : i * cell_width + cell_width ≤ length cs
   pub parts : cell_kind cs i ≡ 2 → PartFits cs ws i
   pub typed : (cell_kind cs i ≡ 2 → ⊥) → Typed cs i
 
--- cells that can be written
-pub record Ready (held out cs ws : List ℕ) (total : ℕ) : Type 0 where
-  pub total_is : total ≡ cells_before cs (length cs / cell_width)
-  pub room : Room held out total
-  pub deep : total + length cs / cell_width ≤ length held
+-- cells that can be written: a word of `roots` for each
+pub record Ready (roots marks out cs ws : List ℕ) : Type 0 where
+  pub total_is : length roots ≡ cells_before cs (length cs / cell_width)
+  pub room : Room roots out (length roots)
+  pub deep : length cs / cell_width ≤ length marks
   pub parts : (i : ℕ) → i * cell_width + cell_width ≤ length cs → cell_kind cs i ≡ 2 → PartFits cs ws i
   pub typed : (i : ℕ) → i * cell_width + cell_width ≤ length cs → (cell_kind cs i ≡ 2 → ⊥) → Typed cs i

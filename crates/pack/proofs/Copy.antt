@@ -68,19 +68,6 @@ pub words_nil : (F : ℕ) → words F Items.nil ≡ 0
 unfolding words
 words_nil F = refl
 
--- Nothing is copied yet.
-pub copies_none : (F : ℕ) (w : List ℕ) (start lo off : ℕ) (its : Items) (l : List ℕ) (p : ℕ)
-    → Ready F w start lo off its p (length l) → Copies F w start lo off its l p (length l) l
-copies_none F w start lo off its l p r =
-    record {
-      left = its;
-      ready = r;
-      copied = [];
-      packed = sym (append-nil (pack F start off its));
-      room = omega arith;
-      rear = sym (append-nil (take (length l) l) ∙ take-length l);
-    }
-
 joined : (l l₁ a b : List ℕ) (k₁ k₂ : ℕ) (us vs : List ℕ) → b ≡ take k₂ a ++ us → take k₂ a ≡ take k₂ l → drop k₁ l₁ ≡ vs → b ++ drop k₁ l₁ ≡ take k₂ l ++ (us ++ vs)
 joined l l₁ a b k₁ k₂ us vs is front rest = rw (is, front, rest) (append_assoc (take k₂ l) us vs)
 

@@ -1,8 +1,10 @@
 // Internal, for the build.
 // Packing a run: the words of its records, one 16-bit word to a word, are staged in the work slice from the top down.
+// Where a list goes whole with a place beside it, the place counts records from the list's front, as the scan's counts and memos do; the work
+// slice goes whole as in `store`.
 #![tactic(auto)]
 
-ghost use Rattle.std.specs.Prelude.{◌≡◌, [], ◌∷◌, ℕ, ◌+◌, ◌-◌, ◌*◌, ◌/◌, ◌<◌, ◌≤◌, length, get_or, Option};
+ghost use Rattle.std.specs.Prelude.{◌≡◌, ℕ, ◌-◌, ◌*◌, ◌/◌, ◌<◌, ◌≤◌, length, get_or, Option};
 ghost use Rattle.words.specs.Words.{put, record_width};
 ghost use Rattle.tree.specs.Items.{Items, span};
 ghost use Rattle.tree.specs.Pack.{pack, run_from};
@@ -11,7 +13,7 @@ ghost use Rattle.pack.specs.Copying.{span_start, behind, packed_record, Recorded
 ghost use Rattle.pack.specs.Taking.{Filled, Runs, Packable, Takable, Takes};
 ghost use Rattle.tree.specs.Ordered.{Fits};
 
-use records::{end_at, start_at};
+use records::record_at;
 use scan::{BufferScan, Memo, find_buffer_size};
 use words::RECORD_WIDTH;
 
@@ -75,6 +77,7 @@ fn copy_to_buffer(records: &[u32], first_repeat: u32, start: u32, part: &mut [u3
     }
     let mut q = p - RECORD_WIDTH;
     let mut k = part.len();
+    // A `while`: the size of each node names the place before it.
     while begins(records, p) < q {
         k = copy_to_buffer(&records[..q], first_repeat, start, &mut part[..k]);
         q = skip_node(records, first_repeat, q);
@@ -91,6 +94,7 @@ fn copy_nodes(records: &[u32], floor: usize, first_repeat: u32, start: u32, part
 {
     let mut q = records.len();
     let mut k = part.len();
+    // A `while`: the size of each node names the place before it.
     while floor < q {
         k = copy_to_buffer(&records[..q], first_repeat, start, &mut part[..k]);
         q = skip_node(records, first_repeat, q);
@@ -123,7 +127,7 @@ fn pack_node(
 
 // Packs the run of the span that ends with record p - 1, whose parent's records begin at record lo, if there is one; else the answer
 // is what the next scan under the same parent goes on from. A record longer than the bound is not scanned.
-#[tactic(auto, using(crate::proofs::Taking::long_leaves))]
+#[tactic(auto, using(crate::proofs::Taking::long_leaves, records::proofs::OneRecord::start_is, records::proofs::OneRecord::end_is))]
 pub fn take_run(
     records: &[u32],
     p: usize,
@@ -138,11 +142,12 @@ pub fn take_run(
     requires { Takable first_repeat own records.now lo p bound memo work.old low }
     ensures { (T from to i s e : ℕ) (kids rest : Items) → Scans first_repeat own records.now work.old lo p bound memo i s e kids rest → Fits first_repeat T from to (span i s e kids rest) → Takes first_repeat bound i s e kids rest p work.old low (run_from first_repeat bound own i s e kids rest) result work.new }
 {
-    let end = end_at(records, p - 1);
-    if bound < end - start_at(records, p - 1) {
+    let r = record_at(records, p - 1);
+    if bound < r.end - r.start {
         return Err(memo);
     }
     let scanned = find_buffer_size(records, work, p, lo, own, bound, memo);
+    // Taken apart by `let .. else`, as document 01 asks (docs/DECISIONS.md, Forms).
     let Ok(run) = scanned else {
         return Err(scanned.err().unwrap_or(memo));
     };
@@ -151,6 +156,6 @@ pub fn take_run(
         p: p - run.size / RECORD_WIDTH,
         low: base,
         start: run.start,
-        length: end - run.start,
+        length: r.end - run.start,
     })
 }

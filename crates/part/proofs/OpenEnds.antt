@@ -1,20 +1,24 @@
 -- The array of open ends: what it holds when record i is reached, and what it says of a crossing.
 -- Assumes nothing.
-use mathlib.Core.Path.{◌≡◌, refl, ◌∙◌}
+use mathlib.Core.Path.{◌≡◌, refl, sym, ◌∙◌}
 use mathlib.Core.List.{List}
 use mathlib.Core.Bool.{true, false, cond}
-use Prim.Native.Nat.{ℕ, zero, suc, ◌+◌, ◌-◌, ◌*◌, ◌/◌, ◌≤◌, ◌<◌, min}
+use Prim.Native.Nat.{ℕ, zero, suc, ◌+◌, ◌-◌, ◌*◌, ◌/◌, ◌%◌, ◌≤◌, ◌<◌, min}
 use native.Mathlib.Decide.{dec_le, ℕ_discrete}
 use native.Mathlib.Omega.{arith}
 use native.Mathlib.Nat.{le_refl, le_trans}
 use native.Mathlib.Numerals.{add-one}
 use borrow.Author.Tests.{le-ltb, lt-ltb}
 use lib.Dec.{ltb}
+use Rattle.std.specs.Prelude.{take}
+use Rattle.std.proofs.lemmas.List.{get_or-take, length-take-le}
 use lib.ListN.{length, get_or, set, length-set}
 use lib.Seq.{get_or-set_same, get_or-set_other}
-use Rattle.part.specs.Part.{end_index, crosses, enclosing}
+use Rattle.part.specs.Part.{end_index, own_fault, crosses, enclosing}
+use Rattle.part.specs.Rebased.{rebased}
 use Rattle.part.specs.Open.{Innermost, above, Stack}
-use Rattle.part.proofs.Faults.{crosses_none, crosses_some}
+use Rattle.part.proofs.OneRecord.{same_length}
+use Rattle.part.proofs.Faults.{own_sound, crosses_none, crosses_some}
 
 -- ends that are not above an offset do not count, and where all are above it each counts
 above_closed : (ends : List ℕ) (top r at : ℕ) → r ≤ top → ((k : ℕ) → r ≤ k → k < top → get_or ends k 0 ≤ at) → above ends top at ≡ above ends r at
@@ -48,6 +52,17 @@ enclosing_next w i at = rw (add-one i)
 none_counted : (w ends : List ℕ) (at : ℕ) → enclosing w 0 at ≡ above ends 0 at
 unfolding enclosing above
 none_counted w ends at = refl
+
+-- those of the first `top` ends that stay open, where these alone were looked at
+pub innermost_of : (ends : List ℕ) (top at r : ℕ) → top ≤ length ends → Innermost (take top ends) (length (take top ends)) at r → Innermost ends top at r
+innermost_of ends top at r l m = record {
+  below = omega (arith, size, m.below);
+  closed = λ k h k'. rw (← get_or-take top ends k 0 k') (m.closed k h (omega (arith, size)));
+  innermost = λ h. rw (← get_or-take top ends (r - 1) 0 (omega (arith, size, m.below))) (m.innermost h);
+}
+  where
+    size : length (take top ends) ≡ top
+    size = length-take-le top ends l
 
 pub stack_none : (w ends : List ℕ) → min (length w / 4) 16383 ≤ length ends → Stack w ends 0 0
 stack_none w ends h = record {
@@ -125,3 +140,26 @@ module _ (w ends : List ℕ) (i : ℕ) where
       falling' a b h l (yes p) (no q) = rw (p, same, other a q) (omega (arith, top (omega arith), s.falling a (r - 1) (omega arith) (omega arith)))
       falling' a b h l (no p) (yes q) = absurd (omega arith)
       falling' a b h l (no p) (no q) = rw (other b p, other a q) (s.falling a b h (omega arith))
+
+-- Record i without a fault of its own, whose end index e was read: it is one of the first 16,383, since an end index has 16 bits.
+module _ (words : List ℕ) (types from i : ℕ) (whole : length words % 4 ≡ 0) (l : i * 4 + 4 ≤ length words) (own : 0 ≡ own_fault (rebased from 0 words) types i) {e : ℕ}
+    (is : e ≡ end_index (rebased from 0 words) i) (small : e < 65536) where
+  abbrev v : List ℕ
+  v = rebased from 0 words
+
+  few : i < 16383
+  few = let s = own_sound v types i (sym own) in omega (arith, s.after, is)
+
+  module _ {ends : List ℕ} {top : ℕ} (s : Stack v ends i top) where
+    pub room_open : top ≤ length ends
+    room_open = omega (arith, few, s.room, s.few, same_length words from i whole)
+
+    module _ {r : ℕ} (m : Innermost (take top ends) (length (take top ends)) (i * 4) r) where
+      pub innermost_here : Innermost ends top (i * 4) r
+      innermost_here = innermost_of ends top (i * 4) r room_open m
+
+      pub popped : Stack v ends i r
+      popped = stack_pop v ends i top r s innermost_here
+
+      pub room_next : r < length ends
+      room_next = omega (arith, popped.few, few, popped.room, same_length words from i whole)

@@ -53,6 +53,7 @@ impl Progress {
 }
 
 // The end index of record i, counted from the word offset `from`; 0 if it is below.
+#[tactic(auto, using(crate::proofs::OneRecord::from_on))]
 fn end_index(words: &[u16], from: u16, i: usize) -> u16
     requires { i * record_width + record_width ≤ length words.now }
     ensures { result ≡ end_index (rebased from 0 words.now) i }
@@ -61,6 +62,7 @@ fn end_index(words: &[u16], from: u16, i: usize) -> u16
 }
 
 // Tests record i by itself: 17 to 19.
+#[tactic(auto, unfolding(crate::specs::Part::own_fault), using(crate::proofs::OneRecord::id_same, crate::proofs::OneRecord::start_same, crate::proofs::OneRecord::end_same, crate::proofs::OneRecord::same_length))]
 fn check_own(words: &[u16], types: u32, from: u16, i: usize) -> Result<(), PackedFault>
     requires record_width_len { length words.now % record_width ≡ 0 }
     requires record_width_in_bounds { i * record_width + record_width ≤ length words.now }
@@ -86,17 +88,15 @@ fn check_own(words: &[u16], types: u32, from: u16, i: usize) -> Result<(), Packe
     Ok(())
 }
 
-// How many of the top ends stay open at an offset: those above it, counted from the bottom.
-fn still_open(ends: &[u16], top: usize, at: usize) -> usize
-    requires { top ≤ length ends.now }
-    ensures { Innermost ends.now top at result }
+// Internal. How many of the ends stay open at an offset: those above it, counted from the bottom. `part_lines::open_ends` is the same over
+// words of 32 bits: one function for both would ask for a conversion to `usize` that u32 has not.
+pub fn still_open(ends: &[u16], at: usize) -> usize
+    ensures { Innermost ends.now (length ends.now) at result }
 {
-    for t in (0..top).rev() {
-        if at < usize::from(ends[t]) {
-            return t + 1;
-        }
+    match ends.iter().rposition(|&end| at < usize::from(end)) {
+        Some(t) => t + 1,
+        None => 0,
     }
-    0
 }
 
 // Internal. 17 to 20 at record i, in a part whose end indices count from `from`; without a fault its end index is put on the open ends,
@@ -117,7 +117,7 @@ pub fn check_record(
 {
     check_own(words, types, from, i)?;
     let end = end_index(words, from, i);
-    let top = still_open(ends, s.top, i * RECORD_WIDTH);
+    let top = still_open(&ends[..s.top], i * RECORD_WIDTH);
     if 0 < top {
         if ends[top - 1] < end {
             return Err(PackedFault::Nesting);

@@ -3,13 +3,13 @@ use mathlib.Core.Path.{◌≡◌, refl, sym, ap, ap₂, subst, ◌∙◌}
 use mathlib.Core.Bool.{Bool, true, false, cond}
 use mathlib.Core.List.{List, [], ◌∷◌, ◌++◌, append_assoc, append-nil}
 use Rattle.std.specs.Prelude.{None, Some}
-use Prim.Native.Nat.{ℕ, zero, suc, ◌+◌, ◌-◌, ◌*◌, ◌≤◌, ◌<◌}
+use Prim.Native.Nat.{ℕ, zero, suc, ◌+◌, ◌*◌, ◌≤◌, ◌<◌}
 use native.Mathlib.Omega.{arith}
 use native.Mathlib.Nat.{le_refl}
 use borrow.Author.Tests.{le-leb, lt-leb, le-ltb, lt-ltb, ltb-true, ltb-false}
 use lib.Dec.{ltb, leb}
-use lib.ListN.{length, get_or, set}
-use lib.Seq.{get_or-set_same, get_or-set_other}
+use lib.ListN.{length, get_or, set, take, length-take}
+use lib.Seq.{get_or-set_same, get_or-set_other, get_or-take, length-take-le}
 use Rattle.tree.specs.Trees.{Trees, nil, tree, part, nodes}
 use Rattle.tree.specs.Cells.{id_word}
 use Rattle.tree.specs.Materialise.{unpack}
@@ -20,66 +20,78 @@ use Rattle.tree.proofs.MaterialiseLaws.{Typed, typed_unpack}
 use Rattle.part_lines.specs.Steps.{still_open}
 
 -- the end indices that are held, the latest first
-unfoldable pub ends_held : (held : List ℕ) (at top : ℕ) → List ℕ
-ends_held held at zero = []
-ends_held held at (suc t) = get_or held (at + t) 0 ∷ ends_held held at t
+unfoldable pub ends_held : (held : List ℕ) (top : ℕ) → List ℕ
+ends_held held zero = []
+ends_held held (suc t) = get_or held t 0 ∷ ends_held held t
 
-pub length_ends : (held : List ℕ) (at t : ℕ) → length (ends_held held at t) ≡ t
+pub length_ends : (held : List ℕ) (t : ℕ) → length (ends_held held t) ≡ t
 unfolding ends_held
-length_ends held at zero = refl
-length_ends held at (suc t) = ap suc (length_ends held at t)
+length_ends held zero = refl
+length_ends held (suc t) = ap suc (length_ends held t)
 
 -- those past the offset are left
-pub ends_open : (held : List ℕ) (at off top : ℕ) → open_ends off (ends_held held at top) ≡ ends_held held at (still_open held at off top)
+pub ends_open : (held : List ℕ) (off top : ℕ) → open_ends off (ends_held held top) ≡ ends_held held (still_open held off top)
 unfolding ends_held open_ends still_open
-ends_open held at off zero = refl
-ends_open held at off (suc t) = go (ends_open held at off t) (ltb off (get_or held (at + t) 0)) refl
+ends_open held off zero = refl
+ends_open held off (suc t) = go (ends_open held off t) (ltb off (get_or held t 0)) refl
   where
-    go : open_ends off (ends_held held at t) ≡ ends_held held at (still_open held at off t) → (x : Bool) → ltb off (get_or held (at + t) 0) ≡ x
-        → elim (leb (get_or held (at + t) 0) off) [ true ↦ open_ends off (ends_held held at t) | false ↦ get_or held (at + t) 0 ∷ ends_held held at t ]
-        ≡ ends_held held at (cond x (suc t) (still_open held at off t))
-    go same true e = rw (lt-leb (get_or held (at + t) 0) off (ltb-true off (get_or held (at + t) 0) e), ends_held)
-    go same false e = rw (le-leb (get_or held (at + t) 0) off (ltb-false off (get_or held (at + t) 0) e)) same
+    go : open_ends off (ends_held held t) ≡ ends_held held (still_open held off t) → (x : Bool) → ltb off (get_or held t 0) ≡ x
+        → elim (leb (get_or held t 0) off) [ true ↦ open_ends off (ends_held held t) | false ↦ get_or held t 0 ∷ ends_held held t ]
+        ≡ ends_held held (cond x (suc t) (still_open held off t))
+    go same true e = rw (lt-leb (get_or held t 0) off (ltb-true off (get_or held t 0) e), ends_held)
+    go same false e = rw (le-leb (get_or held t 0) off (ltb-false off (get_or held t 0) e)) same
 
-pub still_few : (held : List ℕ) (at off top : ℕ) → still_open held at off top ≤ top
+pub still_few : (held : List ℕ) (off top : ℕ) → still_open held off top ≤ top
 unfolding still_open
-still_few held at off zero = omega arith
-still_few held at off (suc t) = go (ltb off (get_or held (at + t) 0)) (still_few held at off t)
+still_few held off zero = omega arith
+still_few held off (suc t) = go (ltb off (get_or held t 0)) (still_few held off t)
   where
-    go : (x : Bool) → still_open held at off t ≤ t → cond x (suc t) (still_open held at off t) ≤ suc t
+    go : (x : Bool) → still_open held off t ≤ t → cond x (suc t) (still_open held off t) ≤ suc t
     go true h = le_refl (suc t)
     go false h = omega arith
 
--- a step of the loop that takes the ends from the latest on
-module _ (held : List ℕ) (at off : ℕ) where
-  pub still_on : (t : ℕ) → 0 < t → off < get_or held (at + (t - 1)) 0 → still_open held at off t ≡ t - 1 + 1
-  unfolding still_open
-  still_on zero l h = absurd (omega arith)
-  still_on (suc t) l h =
-      let e : suc t - 1 ≡ t = omega arith in
-      rw (lt-ltb off (get_or held (at + t) 0) (subst (λ (k : ℕ). off < get_or held (at + k) 0) e h)) (omega arith)
+-- the ends past the first `top` do not count
+still_front : (held : List ℕ) (off n top : ℕ) → top ≤ n → still_open (take n held) off top ≡ still_open held off top
+unfolding still_open
+still_front held off n zero h = refl
+still_front held off n (suc t) h = rw (get_or-take n held t 0 (omega arith), still_front held off n t (omega arith))
 
-  pub still_off : (t : ℕ) → 0 < t → get_or held (at + (t - 1)) 0 ≤ off → still_open held at off t ≡ still_open held at off (t - 1)
-  unfolding still_open
-  still_off zero l h = absurd (omega arith)
-  still_off (suc t) l h = let e : suc t - 1 ≡ t = omega arith in rw (e, le-ltb off (get_or held (at + t) 0) (subst (λ (k : ℕ). get_or held (at + k) 0 ≤ off) e h))
+pub still_taken : (held : List ℕ) (off top : ℕ) → top ≤ length held → still_open (take top held) off (length (take top held)) ≡ still_open held off top
+still_taken held off top h = ap (still_open (take top held) off) (length-take-le top held h) ∙ still_front held off top top (le_refl top)
 
-  pub still_none : (t : ℕ) → t ≤ 0 → still_open held at off t ≡ 0
-  unfolding still_open
-  still_none zero h = refl
-  still_none (suc t) h = absurd (omega arith)
+pub taken_few : (held : List ℕ) (off top : ℕ) → still_open (take top held) off (length (take top held)) ≤ top
+taken_few held off top = omega (arith, still_few (take top held) off (length (take top held)), length-take top held)
+
+-- the latest end past the offset is the last that is left, and none is left where none is past it
+pub still_none : (held : List ℕ) (off n : ℕ) → ((k : ℕ) → k < n → get_or held k 0 ≤ off) → still_open held off n ≡ 0
+unfolding still_open
+still_none held off zero h = refl
+still_none held off (suc n) h = rw (le-ltb off (get_or held n 0) (h n (omega arith))) (still_none held off n (λ k l. h k (omega arith)))
+
+pub still_last : (held : List ℕ) (off n t : ℕ) → t < n → off < get_or held t 0 → ((k : ℕ) → t < k → k < n → get_or held k 0 ≤ off) → still_open held off n ≡ t + 1
+unfolding still_open
+still_last held off zero t l p h = absurd (omega arith)
+still_last held off (suc n) t l p h = go (λ m. still_last held off n t m p (λ k i o. h k i (omega arith))) (ltb t n) refl
+  where
+    go : (t < n → still_open held off n ≡ t + 1) → (x : Bool) → ltb t n ≡ x → cond (ltb off (get_or held n 0)) (suc n) (still_open held off n) ≡ t + 1
+    go inner true e =
+        let before : t < n = ltb-true t n e in
+        rw (le-ltb off (get_or held n 0) (h n before (omega arith))) (inner before)
+    go inner false e =
+        let last : t ≡ n = omega (arith, ltb-false t n e, l) in
+        rw (lt-ltb off (get_or held n 0) (subst (λ (k : ℕ). off < get_or held k 0) last p)) (omega (arith, last))
 
 -- one more end is put on
-ends_other : (held : List ℕ) (at x k t : ℕ) → k ≤ t → ends_held (set held (at + t) x) at k ≡ ends_held held at k
+ends_other : (held : List ℕ) (x k t : ℕ) → k ≤ t → ends_held (set held t x) k ≡ ends_held held k
 unfolding ends_held
-ends_other held at x zero t h = refl
-ends_other held at x (suc k) t h = ap₂ (λ (y : ℕ) (l : List ℕ). y ∷ l) (get_or-set_other held (at + t) (at + k) x 0 (λ e. omega (arith, e))) (ends_other held at x k t (omega arith))
+ends_other held x zero t h = refl
+ends_other held x (suc k) t h = ap₂ (λ (y : ℕ) (l : List ℕ). y ∷ l) (get_or-set_other held t k x 0 (λ e. omega (arith, e))) (ends_other held x k t (omega arith))
 
-pub ends_push : (held : List ℕ) (at x t : ℕ) → at + t < length held → ends_held (set held (at + t) x) at (t + 1) ≡ x ∷ ends_held held at t
+pub ends_push : (held : List ℕ) (x t : ℕ) → t < length held → ends_held (set held t x) (t + 1) ≡ x ∷ ends_held held t
 unfolding ends_held
-ends_push held at x t l =
-    ap (ends_held (set held (at + t) x) at) more
-    ∙ ap₂ (λ (y : ℕ) (l : List ℕ). y ∷ l) (get_or-set_same held (at + t) x 0 l) (ends_other held at x t t (le_refl t))
+ends_push held x t l =
+    ap (ends_held (set held t x)) more
+    ∙ ap₂ (λ (y : ℕ) (l : List ℕ). y ∷ l) (get_or-set_same held t x 0 l) (ends_other held x t t (le_refl t))
   where
     more : t + 1 ≡ suc t
     more = omega arith

@@ -19,18 +19,18 @@ listed_in F (i ∷ s ∷ e ∷ n ∷ ws) =
 unfoldable pub listed_part : (F p d : ℕ) (ws : List ℕ) → List ℕ
 listed_part F p d ws = listing F d (unpack p 0 ws)
 
--- of `top` end indices in `held` from `at` on, how many are left when those up to the offset `off` are taken from the latest on
-unfoldable pub still_open : (held : List ℕ) (at off top : ℕ) → ℕ
-still_open held at off zero = 0
-still_open held at off (suc t) = cond (ltb off (get_or held (at + t) 0)) (suc t) (still_open held at off t)
+-- of the first `top` end indices in `held`, how many are left when those up to the offset `off` are taken from the latest on
+unfoldable pub still_open : (held : List ℕ) (off top : ℕ) → ℕ
+still_open held off zero = 0
+still_open held off (suc t) = cond (ltb off (get_or held t 0)) (suc t) (still_open held off t)
 
--- The part keeps the rules for parts, for some type count and length, wherever it starts, and its end fits 32 bits; there is a word of the
--- work slice for each record, room for the lines, and the depth of each fits 32 bits.
-pub record Lent (F p d : ℕ) (ws : List ℕ) (work at room from : ℕ) : Type 0 where
+-- The part keeps the rules for parts, for some type count and length, wherever it starts, and its end fits 32 bits; there is a word for the
+-- end index of each record, room for the lines, and the depth of each fits 32 bits.
+pub record Lent (F p d : ℕ) (ws : List ℕ) (ends room : ℕ) : Type 0 where
   pub types : ℕ
   pub len : ℕ
   pub parts : (q : ℕ) → Parts types q len ws
-  pub ends : p + len ≤ 4294967295
-  pub work_fits : at + length ws / record_width ≤ work
-  pub lines_fit : from + listed_in F ws * 4 ≤ room
+  pub end_fits : p + len ≤ 4294967295
+  pub ends_fit : length ws / record_width ≤ ends
+  pub lines_fit : listed_in F ws * 4 ≤ room
   pub shallow : d * 4 + listed_in F ws * 4 ≤ 17179869180

@@ -1,22 +1,16 @@
 -- The records that a reader reads: the last one before its place, and all before it. Nothing here is needed to read what a call promises.
 use Rattle.std.specs.Prelude.{List, [], ◌∷◌, ℕ, zero, suc, ◌-◌, ◌*◌, ◌<◌, ◌≤◌, length}
-use Rattle.words.specs.Words.{id_of, start_of, end_of, last_of, record_width}
+use Rattle.words.specs.Words.{record_width}
+use Rattle.records.specs.OneRecord.{record_of}
 use Rattle.reader.specs.declared.Record.{Record}
 
 -- there is a record before place p, and it stands in the list whole
 abbrev pub Readable : List ℕ → ℕ → Type 0
 Readable w p = (0 < p) × (p * record_width ≤ length w)
 
--- its four words, id, start, end and size, and the place before it
+-- it, and the place before it
 abbrev pub record_before : List ℕ → ℕ → Record
-record_before w p =
-    record {
-      id = id_of w (p - 1);
-      start = start_of w (p - 1);
-      end = end_of w (p - 1);
-      size = last_of w (p - 1);
-      before = p - 1;
-    }
+record_before w p = record { own = record_of w (p - 1); before = p - 1 }
 
 -- the records before place p, from the last one back
 abbrev pub records_before : List ℕ → ℕ → List Record

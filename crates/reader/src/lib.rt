@@ -1,4 +1,4 @@
-// Internal: the build reads records through it.
+// Internal: the build reads the record of a tree by `last_record`.
 // The reader: a record list with a place in it, read from the last record back. A place is the number of records before it.
 #![tactic(auto)]
 
@@ -7,16 +7,13 @@ ghost use Rattle.std.specs.Iterator.{YieldsFirst, item_count};
 ghost use Rattle.words.specs.Words.{record_width};
 ghost use Rattle.reader.specs.Before.{Readable, record_before, records_before};
 
-use records::{end_at, id_at, size_at, start_at};
+use records::record_at;
 use words::RECORD_WIDTH;
 
-// The words of a record, and the place before it.
+// A record, and the place before it.
 #[derive(Clone, Copy)]
 pub struct Record {
-    pub id: u32,
-    pub start: u32,
-    pub end: u32,
-    pub size: u32,
+    pub own: records::Record,
     pub before: usize,
 }
 
@@ -34,7 +31,7 @@ impl<'a> Reader<'a> {
     {
         Reader {
             records,
-            at: count(records),
+            at: records.len() / RECORD_WIDTH,
         }
     }
 }
@@ -58,24 +55,14 @@ impl<'a> Iterator for Reader<'a> {
     }
 }
 
-// How many records a list has: the place where reading begins.
-pub fn count(records: &[u32]) -> usize
-    ensures { result ≡ length records.now / record_width }
-{
-    records.len() / RECORD_WIDTH
-}
-
-// The last record before place p.
+// The last record before place p, which the build keeps as a number.
 pub fn last_record(records: &[u32], p: usize) -> Record
     requires { Readable records.now p }
     ensures { result ≡ record_before records.now p }
 {
-    let last = p - 1;
+    let before = p - 1;
     Record {
-        id: id_at(records, last),
-        start: start_at(records, last),
-        end: end_at(records, last),
-        size: size_at(records, last),
-        before: last,
+        own: record_at(records, before),
+        before,
     }
 }

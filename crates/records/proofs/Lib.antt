@@ -1,7 +1,6 @@
 pub mod ParseLaws
 pub mod AcceptLaws
 pub mod Spelling
-pub mod Faults
 pub mod Progress
 pub mod Order
 pub mod Stack
@@ -13,3 +12,4 @@ pub mod Answers
 pub mod Crossing
 pub mod NineExactly
 pub mod Constants
+pub mod OneRecord

@@ -13,7 +13,10 @@ use Rattle.words.specs.Words.{id_of, start_of, end_of}
 use Rattle.records.specs.Forest.{Forest, empty, count}
 use Rattle.records.specs.Parse.{parse, parse_from, nearest, farther}
 use Rattle.records.specs.Check.{fills, range_fault, list_range_fault, range_outcome}
+use Rattle.records.specs.OneRecord.{record_of}
+use Rattle.records.specs.declared.Record.{Record}
 use Rattle.records.specs.Taking.{finished, Faultless, judged}
+use Rattle.records.proofs.OneRecord.{start_is, end_is, size_is}
 use Rattle.records.proofs.ParseLaws.{nearest_all, farther_all}
 use Rattle.records.proofs.Spelling.{counted, span, fills_all}
 use Rattle.records.proofs.Progress.{Progress, progress_none, Sized, sized_here, fills_here, next_here, all_parsed}
@@ -31,7 +34,10 @@ pub lowest_none : (ws : List ℕ) (n : ℕ) → length ws ≡ n * 4 → Faultles
 unfolding finished parse parse_from inner
 lowest_none ws n size h = record { some_left = omega arith; size = size; faultless = h; progress = progress_none h.types ws; lowest = refl }
 
-module _ {ws : List ℕ} {n i low : ℕ} (g : LowestRecord ws n i low) (less : i < n) {m : ℕ} (spans : m ≡ span ws i) where
+module _ {ws : List ℕ} {n i low : ℕ} (g : LowestRecord ws n i low) (less : i < n) {r : Record} (is : r ≡ record_of ws i) {m : ℕ} (whole : m ≡ r.size / 4) where
+  spans : m ≡ span ws i
+  spans = whole ∙ ap (λ (k : ℕ). k / 4) (size_is _ _ is)
+
   room : i * 4 + 4 ≤ length ws
   room = omega (arith, g.size)
 
@@ -42,8 +48,8 @@ module _ {ws : List ℕ} {n i low : ℕ} (g : LowestRecord ws n i low) (less : i
   pub filled : fills (finished ws i) (m - 1) ≡ true
   filled = fills_here g.faultless.types ws i g.progress room g.faultless.clear m spans
 
-  pub lowest_next : {k s e low' : ℕ} → k ≡ m - 1 → s ≡ start_of ws i → e ≡ end_of ws i → low' ≡ judged low s e (finished ws i) k → LowestRecord ws n (i + 1) low'
-  lowest_next {k} {s} {e} {low'} ek es ee l =
+  pub lowest_next : {low' : ℕ} → low' ≡ judged low r.start r.end (finished ws i) (m - 1) → LowestRecord ws n (i + 1) low'
+  lowest_next {low'} l =
       let p = next_here g.faultless.types ws i g.progress room g.faultless.clear m spans in
       record {
         some_left = omega arith;
@@ -51,7 +57,7 @@ module _ {ws : List ℕ} {n i low : ℕ} (g : LowestRecord ws n i low) (less : i
         faultless = g.faultless;
         progress = p.0;
         lowest =
-            rw (ek, es, ee) at l
+            rw (start_is _ _ is, end_is _ _ is) at l
             ∙ (ap (λ (d : ℕ). judged d (start_of ws i) (end_of ws i) (finished ws i) (m - 1)) g.lowest
             ∙ (sym (inner_grown (finished ws i) (m - 1) n (id_of ws i) _ _ (omega (arith, counted ws i g.progress.sound))) ∙ ap (inner n 0) (sym p.1)));
       }

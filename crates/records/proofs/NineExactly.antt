@@ -21,7 +21,6 @@ use Rattle.records.specs.Check.{fills, own_fault, records_check, list_range_faul
 use Rattle.records.specs.Nine.{Crosses, Whole, Nine}
 use Rattle.records.specs.Taking.{finished, fault_at}
 use Rattle.records.proofs.ParseLaws.{own_fine}
-use Rattle.records.proofs.Faults.{fault_none}
 use Rattle.records.proofs.Spelling.{span}
 use Rattle.records.proofs.Progress.{Progress, progress_none, own_refused, sized, crossing_refused, progress_next, no_fault}
 use Rattle.records.proofs.Crossing.{crossed_exactly}
@@ -33,9 +32,16 @@ fine_whole T ws i h =
     record { known = f.0; ordered = f.1; large = omega (arith, f.2); fours = omega (arith, f.2); small = omega (arith, f.3) }
 
 whole_fine : (T : ℕ) (ws : List ℕ) (i : ℕ) → Whole T ws i → fault_at T ws i ≡ 0
+unfolding own_fault
 whole_fine T ws i w =
-    sym (fault_none T i (id_of ws i) (start_of ws i) (end_of ws i) (last_of ws i) (id_of ws i) refl w.known
-    (start_of ws i) (end_of ws i) refl refl w.ordered (last_of ws i) refl w.large w.fours w.small)
+    rw (
+      lt-leb T (id_of ws i) w.known,
+      le-ltb (end_of ws i) (start_of ws i) w.ordered,
+      le-ltb (last_of ws i) 4 w.large,
+      eq-eqb (last_of ws i % 4) 0 w.fours,
+      le-ltb (4 * suc i) (last_of ws i) (omega (arith, w.small)),
+    )
+    refl
 
 -- 9 is none of 6 to 8
 own_not_9 : (T c i s e n : ℕ) → own_fault T c i s e n ≡ 9 → ⊥

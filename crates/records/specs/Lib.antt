@@ -4,3 +4,4 @@ pub mod Check
 pub mod Answer
 pub mod Taking
 pub mod Nine
+pub mod OneRecord

@@ -1,5 +1,5 @@
 -- What the functions behind the check promise. Nothing here is needed to read what the check itself promises.
-use Rattle.std.specs.Prelude.{◌≡◌, List, [], Bool, true, false, cond, ◌&&◌, ℕ, zero, suc, ◌+◌, ◌-◌, ◌*◌, ◌≤◌, min, leb, ltb, eqb, length, get_or, set, take}
+use Rattle.std.specs.Prelude.{◌≡◌, List, [], Bool, true, false, cond, ◌&&◌, ℕ, zero, suc, ◌+◌, ◌-◌, ◌*◌, ◌≤◌, min, leb, ltb, eqb, length, get_or, take}
 use Rattle.std.specs.Prelude.{None}
 use Rattle.words.specs.Outcome.{accepted}
 use Rattle.words.specs.Words.{id_of, start_of, end_of, last_of, record_width}
@@ -28,27 +28,23 @@ fault_at T ws i = own_fault T i (id_of ws i) (start_of ws i) (end_of ws i) (last
 unfoldable pub reaches : (s e first last : ℕ) → Bool
 reaches s e first last = leb s first && leb last e
 
--- The work slice holds the first-level siblings of a forest of at most n records: word b is the number, from 0, of the sibling
--- whose span begins at record b; two words for each sibling follow the first n, this record number and its start.
-abbrev pub Stacked : (n : ℕ) (work : List ℕ) → Forest → (height : ℕ) → Type 0
-Stacked n w empty h = h ≡ 0
-Stacked n w (add before i s e kids) h =
+-- Two tables hold the first-level siblings of a forest: word b of `levels` is the number, from 0, of the sibling whose span begins
+-- at record b; `siblings` has two words for each sibling, this record number and its start.
+abbrev pub Stacked : (levels siblings : List ℕ) → Forest → (height : ℕ) → Type 0
+Stacked v w empty h = h ≡ 0
+Stacked v w (add before i s e kids) h =
     record {
       under : ℕ;
       is : h ≡ suc under;
-      begins : get_or w (n + under * 2) 0 ≡ count before;
-      starts : get_or w (n + under * 2 + 1) 0 ≡ s;
-      level : get_or w (count before) 0 ≡ under;
-      earlier : Stacked n w before under;
+      begins : get_or w (under * 2) 0 ≡ count before;
+      starts : get_or w (under * 2 + 1) 0 ≡ s;
+      level : get_or v (count before) 0 ≡ under;
+      earlier : Stacked v w before under;
     }
 
 -- sibling number `level`, below the height, has a span that begins at record `from`
-unfoldable pub begins_at : (n : ℕ) (work : List ℕ) → (level from height : ℕ) → Bool
-begins_at n w level from height = ltb level height && eqb (get_or w (n + level * 2) 0) from
-
--- a sibling written into the work slice
-abbrev pub pushed : (n : ℕ) (work : List ℕ) → (height from start : ℕ) → List ℕ
-pushed n w height from start = set (set (set w from height) (n + height * 2) from) (n + height * 2 + 1) start
+unfoldable pub begins_at : (siblings : List ℕ) → (level from height : ℕ) → Bool
+begins_at w level from height = ltb level height && eqb (get_or w (level * 2) 0) from
 
 -- what the scan answers: 6 to 9 refuse; or they do not, and 10 does not either; or they do not
 abbrev pub Says : (T S : ℕ) → List ℕ → Result Bool Refusal → Type 0

@@ -2,90 +2,97 @@
 // there.
 #![tactic(auto)]
 
-ghost use Rattle.std.specs.Prelude.{◌≡◌, true, cond, ◌&&◌, ◌+◌, ◌-◌, ◌*◌, ◌/◌, ◌%◌, ◌<◌, ◌≤◌, min, leb, length};
-ghost use Rattle.words.specs.Words.{id_of, start_of, end_of, last_of, record_width};
+ghost use Rattle.std.specs.Prelude.{◌≡◌, true, ◌&&◌, ◌+◌, ◌-◌, ◌*◌, ◌/◌, ◌%◌, ◌<◌, ◌≤◌, min, leb, length, set};
+ghost use Rattle.words.specs.Words.{record_width};
+ghost use Rattle.records.specs.OneRecord.{record_of};
 ghost use Rattle.records.specs.Forest.{behind};
 ghost use Rattle.records.specs.Parse.{nearest};
-ghost use Rattle.records.specs.Check.{fills, in_place, list_range_fault, range_outcome, list_check, check};
-ghost use Rattle.records.specs.Taking.{finished, Spelt, fault_at, reaches, begins_at, pushed, Says, Faultless, judged};
+ghost use Rattle.records.specs.Check.{own_fault, fills, in_place, list_range_fault, range_outcome, list_check, check};
+ghost use Rattle.records.specs.Taking.{finished, Spelt, reaches, begins_at, Says, Faultless, judged};
 ghost use Rattle.words.specs.Refusal.{answered};
 ghost use Rattle.records.specs.Answer.{record_count, number_or_none};
 
 use words::{RECORD_SIZE, RECORD_WIDTH, RecordFault, Refusal};
 
-// The four words of record i.
-pub fn id_at(records: &[u32], i: usize) -> u32
-    requires { i * record_width + record_width ≤ length records.now }
-    ensures { result ≡ id_of records.now i }
-{
-    records[i * RECORD_WIDTH]
+// A record's words.
+#[derive(Clone, Copy, Debug, PartialEq, Eq)]
+pub struct Record {
+    pub id: u32,
+    pub start: u32,
+    pub end: u32,
+    pub size: u32,
 }
 
-pub fn start_at(records: &[u32], i: usize) -> u32
-    requires { i * record_width + record_width ≤ length records.now }
-    ensures { result ≡ start_of records.now i }
-{
-    records[i * RECORD_WIDTH + 1]
-}
-
-pub fn end_at(records: &[u32], i: usize) -> u32
-    requires { i * record_width + record_width ≤ length records.now }
-    ensures { result ≡ end_of records.now i }
-{
-    records[i * RECORD_WIDTH + 2]
-}
-
-pub fn size_at(records: &[u32], i: usize) -> u32
-    requires { i * record_width + record_width ≤ length records.now }
-    ensures { result ≡ last_of records.now i }
-{
-    records[i * RECORD_WIDTH + 3]
-}
-
-// How many records the span of record i holds.
-pub fn span_at(records: &[u32], i: usize) -> usize
-    requires { i * record_width + record_width ≤ length records.now }
-    ensures { result ≡ last_of records.now i / record_width }
-{
-    (size_at(records, i) / RECORD_SIZE) as usize
-}
-
-// One record back: from behind record p - 1 to before it.
-pub fn back(p: usize) -> usize
-    requires { 0 < p }
-    ensures { result ≡ p - 1 }
-{
-    p - 1
-}
-
-// Tests record i by itself: 6 to 8.
-fn check_own(types: u32, records: &[u32], i: usize) -> Result<(), RecordFault>
-    requires { i * record_width + record_width ≤ length records.now }
-    ensures { number_or_none result ≡ fault_at types records.now i }
-{
-    if types <= id_at(records, i) {
-        return Err(RecordFault::Id);
+impl Record {
+    // How many records its span holds.
+    pub fn span(self) -> usize
+        ensures { result ≡ self.size / record_width }
+    {
+        (self.size / RECORD_SIZE) as usize
     }
-    if end_at(records, i) < start_at(records, i) {
-        return Err(RecordFault::Range);
+
+    // Tests it by itself, as record i: 6 to 8.
+    #[tactic(auto, unfolding(crate::specs::Check::own_fault))]
+    fn check_own(self, types: u32, i: usize) -> Result<(), RecordFault>
+        requires { i < 1048576 }
+        ensures { number_or_none result ≡ own_fault types i self.id self.start self.end self.size }
+    {
+        if types <= self.id {
+            return Err(RecordFault::Id);
+        }
+        if self.end < self.start {
+            return Err(RecordFault::Range);
+        }
+        let size = self.size as usize;
+        if size == RECORD_WIDTH {
+            return Ok(());
+        }
+        if size < RECORD_WIDTH {
+            return Err(RecordFault::Size);
+        }
+        if size % RECORD_WIDTH != 0 {
+            return Err(RecordFault::Size);
+        }
+        if RECORD_WIDTH * (i + 1) < size {
+            return Err(RecordFault::Size);
+        }
+        Ok(())
     }
-    let size = size_at(records, i) as usize;
-    if size == RECORD_WIDTH {
-        return Ok(());
+
+    // Whether it reaches from its first child's start to its last child's end.
+    #[tactic(auto, unfolding(crate::specs::Taking::reaches))]
+    fn covers(self, first: u32, last: u32) -> bool
+        ensures { result ≡ reaches self.start self.end first last }
+    {
+        self.start <= first && last <= self.end
     }
-    if size < RECORD_WIDTH {
-        return Err(RecordFault::Size);
+
+    // Whether it stands from lo to hi and starts at or after `after`.
+    #[tactic(auto, unfolding(crate::specs::Check::in_place))]
+    fn stands(self, lo: u32, hi: u32, after: u32) -> bool
+        ensures { result ≡ in_place lo hi after self.start self.end }
+    {
+        lo.max(after) <= self.start && self.end <= hi
     }
-    if size % RECORD_WIDTH != 0 {
-        return Err(RecordFault::Size);
-    }
-    if RECORD_WIDTH * (i + 1) < size {
-        return Err(RecordFault::Size);
-    }
-    Ok(())
 }
 
-// Where the last of the first p records ends, if it is one of the `left` still to be taken up; else lo.
+// Record i.
+#[tactic(auto, unfolding(crate::specs::OneRecord::record_of))]
+pub fn record_at(records: &[u32], i: usize) -> Record
+    requires { i * record_width + record_width ≤ length records.now }
+    ensures { result ≡ record_of records.now i }
+{
+    let at = i * RECORD_WIDTH;
+    Record {
+        id: records[at],
+        start: records[at + 1],
+        end: records[at + 2],
+        size: records[at + 3],
+    }
+}
+
+// Where the last of the first p records ends, if it is one of the `left` still to be taken up; else lo. The list goes whole with p, since
+// spans and definitions count from its front.
 fn behind_at(records: &[u32], p: usize, left: usize, lo: u32) -> u32
     requires spelt { Spelt records.now p }
     requires left_le_p { left ≤ p }
@@ -94,93 +101,87 @@ fn behind_at(records: &[u32], p: usize, left: usize, lo: u32) -> u32
     if left == 0 {
         return lo;
     }
-    end_at(records, p - 1)
+    record_at(records, p - 1).end
 }
 
-// Whether record i starts at or after the end of the record before `from`, or at or after `start` if there is none.
-fn follows(records: &[u32], i: usize, from: usize, start: u32) -> bool
-    requires record_width_in_bounds { i * record_width + record_width ≤ length records.now }
-    requires spelt { Spelt records.now from }
-    ensures { result ≡ leb (behind start (finished records.now from)) (start_of records.now i) }
+// Whether a record starts at or after the end of the record before `from`, or at or after `start` if there is none.
+fn follows(records: &[u32], r: Record, from: usize, start: u32) -> bool
+    requires { Spelt records.now from }
+    ensures { result ≡ leb (behind start (finished records.now from)) r.start }
 {
-    behind_at(records, from, from, start) <= start_at(records, i)
-}
-
-// Whether record i reaches from its first child's start to its last child's end.
-fn covers(records: &[u32], i: usize, first: u32) -> bool
-    requires record_width_in_bounds { i * record_width + record_width ≤ length records.now }
-    requires i_nonzero { 0 < i }
-    ensures { result ≡ reaches (start_of records.now i) (end_of records.now i) first (end_of records.now (i - 1)) }
-{
-    start_at(records, i) <= first && end_at(records, i - 1) <= end_at(records, i)
+    behind_at(records, from, from, start) <= r.start
 }
 
 // Whether `level` is the number of a sibling, one of `height`, whose span begins at record `from`.
-fn begins(work: &[u32], n: usize, level: usize, from: usize, height: usize) -> bool
-    requires { n + height * 2 ≤ length work.now }
-    ensures { result ≡ begins_at n work.now level from height }
+#[tactic(auto, unfolding(crate::specs::Taking::begins_at))]
+fn begins(siblings: &[u32], level: usize, from: usize, height: usize) -> bool
+    requires { height * 2 ≤ length siblings.now }
+    ensures { result ≡ begins_at siblings.now level from height }
 {
-    level < height && work[n + level * 2] as usize == from
+    level < height && siblings[level * 2] as usize == from
 }
 
 // One sibling more: its span begins at record `from`.
-fn push(work: &mut [u32], n: usize, height: usize, from: usize, start: u32)
-    requires n_bound { n ≤ 1048576 }
-    requires from_lt_n { from < n }
+fn push(levels: &mut [u32], siblings: &mut [u32], height: usize, from: usize, start: u32)
+    requires from_bound { from < 1048576 }
     requires height_le_from { height ≤ from }
-    requires n_in_bounds { n * 3 ≤ length work.old }
-    ensures { work.new ≡ pushed n work.old height from start }
+    requires from_in_bounds { from < length levels.old }
+    requires height_in_bounds { height * 2 + 1 < length siblings.old }
+    ensures level_set { levels.new ≡ set levels.old from height }
+    ensures sibling_set { siblings.new ≡ set (set siblings.old (height * 2) from) (height * 2 + 1) start }
 {
-    work[from] = height as u32;
-    work[n + height * 2] = from as u32;
-    work[n + height * 2 + 1] = start;
+    levels[from] = height as u32;
+    siblings[height * 2] = from as u32;
+    siblings[height * 2 + 1] = start;
 }
 
-// 6 to 9, record by record; without one of them, whether the list is in order, so that 10 does not apply. The work slice holds the
+// 6 to 9, record by record; without one of them, whether the list is in order, so that 10 does not apply. The two tables hold the
 // first-level siblings so far (Stacked): the first child of a record is found at once, by the record at which both spans begin. Only its
 // start and the last child's end are compared with the record's range: the children are in order.
-fn scan_records(types: u32, start: u32, records: &[u32], work: &mut [u32]) -> Result<bool, Refusal>
+#[tactic(auto, unfolding(crate::specs::Taking::begins_at))]
+fn scan_records(
+    types: u32,
+    start: u32,
+    records: &[u32],
+    levels: &mut [u32],
+    siblings: &mut [u32],
+) -> Result<bool, Refusal>
     requires record_width_len { length records.now % record_width ≡ 0 }
     requires record_width_len_bound { length records.now / record_width ≤ 1048576 }
-    requires record_width_in_bounds { length records.now / record_width * 3 ≤ length work.old }
+    requires levels_in_bounds { length records.now / record_width ≤ length levels.old }
+    requires siblings_in_bounds { length records.now / record_width * 2 ≤ length siblings.old }
     ensures { Says types start records.now result }
 {
     let n = records.len() / RECORD_WIDTH;
     let mut ordered = true;
     let mut height: usize = 0;
     for i in 0..n {
-        if let Err(fault) = check_own(types, records, i) {
+        let r = record_at(records, i);
+        if let Err(fault) = r.check_own(types, i) {
             return Err(Refusal::Record(fault, i));
         }
-        if size_at(records, i) == RECORD_SIZE {
-            ordered &= follows(records, i, i, start);
-            push(work, n, height, i, start_at(records, i));
+        if r.size == RECORD_SIZE {
+            ordered &= follows(records, r, i, start);
+            push(levels, siblings, height, i, r.start);
             height += 1;
             continue;
         }
-        let from = i + 1 - span_at(records, i);
-        let level = work[from] as usize;
-        if !begins(work, n, level, from, height) {
+        let from = i + 1 - r.span();
+        let level = levels[from] as usize;
+        if !begins(siblings, level, from, height) {
             return Err(Refusal::Record(RecordFault::Span, i));
         }
-        let held = covers(records, i, work[n + level * 2 + 1]);
-        ordered &= held & follows(records, i, from, start);
-        work[n + level * 2 + 1] = start_at(records, i);
+        let held = r.covers(siblings[level * 2 + 1], record_at(records, i - 1).end);
+        ordered &= held & follows(records, r, from, start);
+        siblings[level * 2 + 1] = r.start;
         height = level + 1;
     }
     Ok(ordered)
 }
 
-// Whether record i stands from lo to hi and starts at or after `after`.
-fn stands(records: &[u32], i: usize, lo: u32, hi: u32, after: u32) -> bool
-    requires { i * record_width + record_width ≤ length records.now }
-    ensures { result ≡ in_place lo hi after (start_of records.now i) (end_of records.now i) }
-{
-    lo.max(after) <= start_at(records, i) && end_at(records, i) <= hi
-}
-
 // The children of a record from lo to hi, which are the last k of the i records before it with their descendants, from the
 // last child back. The size of a child says where the one before it ends: the list itself is the stack.
+#[tactic(auto, using(crate::proofs::Judging::child_some, crate::proofs::Judging::child_within, crate::proofs::Judging::child_fits, crate::proofs::Judging::child_earlier))]
 fn judge(records: &[u32], i: usize, k: usize, lo: u32, hi: u32, lowest: usize) -> usize
     requires spelt { Spelt records.now i }
     requires k_le_i { k ≤ i }
@@ -190,14 +191,16 @@ fn judge(records: &[u32], i: usize, k: usize, lo: u32, hi: u32, lowest: usize) -
     let mut p = i;
     let mut left = k;
     let mut low = lowest;
+    // A `while`: the size of each child names the place before it.
     while 0 < left {
-        let child = back(p);
-        let span = span_at(records, child);
+        let last = p - 1;
+        let child = record_at(records, last);
+        let span = child.span();
         left -= span;
         p -= span;
         let after = behind_at(records, p, left, lo);
-        if !stands(records, child, lo, hi, after) {
-            low = low.min(child);
+        if !child.stands(lo, hi, after) {
+            low = low.min(last);
         }
     }
     low
@@ -214,8 +217,8 @@ fn check_ranges(start: u32, records: &[u32]) -> Result<usize, Refusal>
     let n = records.len() / RECORD_WIDTH;
     let mut low = n;
     for i in 0..n {
-        let k = span_at(records, i) - 1;
-        low = judge(records, i, k, start_at(records, i), end_at(records, i), low);
+        let r = record_at(records, i);
+        low = judge(records, i, r.span() - 1, r.start, r.end, low);
     }
     let lowest = judge(records, n, n, start, u32::MAX, low);
     if lowest < n {
@@ -224,7 +227,7 @@ fn check_ranges(start: u32, records: &[u32]) -> Result<usize, Refusal>
     Ok(n)
 }
 
-// 6 to 9 record by record, then 10.
+// 6 to 9 record by record, then 10. The work slice is divided into the two tables of the scan.
 fn check_records(
     types: u32,
     start: u32,
@@ -236,8 +239,10 @@ fn check_records(
     requires record_width_in_bounds { length records.now / record_width * 3 ≤ length work.old }
     ensures { answered record_count result ≡ list_check types start records.now }
 {
-    if scan_records(types, start, records, work)? {
-        return Ok(records.len() / RECORD_WIDTH);
+    let n = records.len() / RECORD_WIDTH;
+    let (levels, siblings) = work.split_at_mut(n);
+    if scan_records(types, start, records, levels, siblings)? {
+        return Ok(n);
     }
     check_ranges(start, records)
 }

@@ -30,10 +30,30 @@ const MOST_NUMBERS: usize = 7 + MOST_CELLS + MOST_WORDS;
 // The work slice for 100 cells and 100 packed records.
 const WORK: usize = 19296;
 
+// The calls.
+#[derive(Clone, Copy)]
+enum Call {
+    Materialise,
+    List,
+    Balance,
+}
+
+impl Call {
+    // By its number in a line.
+    fn of(number: u64) -> Result<Call, Fault> {
+        match number {
+            1 => Ok(Call::Materialise),
+            2 => Ok(Call::List),
+            3 => Ok(Call::Balance),
+            _ => Err(Fault::BadLine),
+        }
+    }
+}
+
 // What a line asks for.
 #[derive(Drop)]
 struct Asked {
-    call: u64,
+    call: Call,
     types: u32,
     first_repeat: u32,
     start: u32,
@@ -57,7 +77,7 @@ impl Asked {
             return Err(Fault::BadLine);
         }
         Ok(Asked {
-            call: *call,
+            call: Call::of(*call)?,
             types: u32::try_from(*types)?,
             first_repeat: u32::try_from(*first_repeat)?,
             start: u32::try_from(*start)?,
@@ -119,14 +139,13 @@ impl Asked {
     fn answer(&self, alloc: Global, work: &mut [u32]) -> Result<String, Fault> {
         let mut out = vec![in alloc; BEFORE; self.room]?;
         let answer = match self.call {
-            1 => self.materialise(alloc, work, &mut out)?,
-            2 => self.list(alloc, work, &mut out)?,
-            3 => {
+            Call::Materialise => self.materialise(alloc, work, &mut out)?,
+            Call::List => self.list(alloc, work, &mut out)?,
+            Call::Balance => {
                 let mut packed = vec![in alloc; PACKED_BEFORE; self.words.len()]?;
                 let answer = self.balance(alloc, work, &mut out, &mut packed)?;
                 return Ok(format!(in alloc; "{answer} :{} :{}", Spaced(&out), Spaced(&packed))?);
             }
-            _ => return Err(Fault::BadLine),
         };
         Ok(format!(in alloc; "{answer} :{}", Spaced(&out))?)
     }

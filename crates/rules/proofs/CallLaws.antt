@@ -11,6 +11,9 @@ use lib.Dec.{ltb}
 use lib.ListN.{length}
 use Rattle.words.specs.Outcome.{Outcome, accepted, refused, settled}
 use Rattle.words.specs.Words.{front}
+use Rattle.words.specs.Refusal.{refused_by}
+use Rattle.words.specs.declared.refusal.Refusal.{Refusal}
+use Rattle.words.proofs.Refusals.{told}
 use Rattle.records.specs.Parse.{parse}
 use Rattle.records.specs.Check.{Accepted}
 use Rattle.tree.specs.Trees.{nodes}
@@ -103,6 +106,23 @@ module _ (T : ℕ) (cs ws : List ℕ) (work : ℕ) (out : List ℕ) (number plac
       → balance_call T f cs ws work out words ≡ record { outcome = refused number place; outputs = out ∷ words ∷ [] }
   unfolding balance_call
   balance_refused f words h = rw (h (balance_room f cs ws (length out) (length words)))
+
+-- the same of a refusal as the code has it
+module _ (T : ℕ) (cs ws : List ℕ) (work : ℕ) (out : List ℕ) (r : Refusal) where
+  pub materialise_refused_by : ((o : Outcome) → unless_bad T 0 cs ws work o ≡ refused_by r)
+      → materialise_call T cs ws work out ≡ record { outcome = refused_by r; outputs = out ∷ [] }
+  unfolding materialise_call
+  materialise_refused_by h = rw (h (result_room (nodes (materialise (handed_in cs ws))) 0 (length out) 0), told r)
+
+  pub list_refused_by : (F S : ℕ) → ((o : Outcome) → unless_bad T S cs ws work o ≡ refused_by r)
+      → list_call T F S cs ws work out ≡ record { outcome = refused_by r; outputs = out ∷ [] }
+  unfolding list_call
+  list_refused_by F S h = rw (h (lines_room (length (list_cells F S cs ws)) (length out)), told r)
+
+  pub balance_refused_by : (f : Bool) (words : List ℕ) → ((o : Outcome) → unless_bad T 0 cs ws work o ≡ refused_by r)
+      → balance_call T f cs ws work out words ≡ record { outcome = refused_by r; outputs = out ∷ words ∷ [] }
+  unfolding balance_call
+  balance_refused_by f words h = rw (h (balance_room f cs ws (length out) (length words)), told r)
 
 -- a call on accepted cells with what it asks lent
 module _ (T : ℕ) (types : T ≤ 65536) (cs ws : List ℕ) (work : ℕ) (out : List ℕ) where

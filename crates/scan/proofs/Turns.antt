@@ -1,5 +1,5 @@
 -- Each turn of the walk keeps what a walk up to there is, and each way out of it leaves the answer. Assumes nothing.
-use mathlib.Core.Path.{◌≡◌}
+use mathlib.Core.Path.{◌≡◌, ap, ◌∙◌}
 use mathlib.Core.Bool.{true, false}
 use mathlib.Core.List.{List}
 use Rattle.std.specs.Prelude.{Option}
@@ -7,6 +7,9 @@ use Prim.Native.Nat.{ℕ, ◌+◌, ◌-◌, ◌*◌, ◌/◌, ◌≤◌, ◌<◌
 use native.Mathlib.Omega.{arith}
 use lib.ListN.{length}
 use Rattle.words.specs.Words.{id_of, start_of, end_of, last_of}
+use Rattle.records.specs.OneRecord.{record_of}
+use Rattle.records.specs.declared.Record.{Record}
+use Rattle.records.proofs.OneRecord.{start_is, size_is}
 use Rattle.tree.specs.Items.{Items, span, same}
 use Rattle.tree.specs.Pack.{run_from}
 use Rattle.scan.specs.Counted.{Rising}
@@ -81,9 +84,11 @@ module _ {own : Option ℕ} {w l : List ℕ} {lo at bound : ℕ} {memo : Memo} (
         pub room : (lo + last_of w (m.place - 1) / 4 ≤ m.place) × (0 < last_of w (m.place - 1) / 4)
         room = step_room q.scans.stands (h.walked q.F q.i q.s q.e q.kids q.rest q.scans) some_record other
 
-        pub past_span : (s k : ℕ) → s ≡ start_of w (m.place - 1) → k ≡ last_of w (m.place - 1) / 4 → end_of w (at - 1) - bound ≤ s
-            → Walking own w l lo at bound memo (record { place = m.place - k; start = s; mark = m.mark; edge = m.edge })
-        past_span s k is size near =
+        pub past_span : {r : Record} {k : ℕ} → r ≡ record_of w (m.place - 1) → k ≡ r.size / 4 → end_of w (at - 1) - bound ≤ r.start
+            → Walking own w l lo at bound memo (record { place = m.place - k; start = r.start; mark = m.mark; edge = m.edge })
+        past_span {r} {k} read whole near =
+            let is : r.start ≡ start_of w (m.place - 1) = start_is _ _ read in
+            let size : k ≡ last_of w (m.place - 1) / 4 = whole ∙ ap (λ (x : ℕ). x / 4) (size_is _ _ read) in
             rw (is, size)
             (walking (record { place = m.place - last_of w (m.place - 1) / 4; start = start_of w (m.place - 1); mark = m.mark; edge = m.edge }) h.noted.order
             (λ F i s' e kids rest sc. step_span sc.stands (h.walked F i s' e kids rest sc) some_record other (omega (arith, sc.stands.spells.end))))

@@ -1,6 +1,7 @@
 // Internal, for the build.
 // The scan for a run of sibling spans that packs into one part. Counts of the repeat records before each place give a run's
-// words at once, and a memo of the walk lets the next scan under the same parent go on where this one ended.
+// words at once, and a memo of the walk lets the next scan under the same parent go on where this one ended. A
+// place is the number of records before it, in the list and in the counts, so both go whole with places beside them.
 #![tactic(auto)]
 
 ghost use Rattle.std.specs.Prelude.{◌≡◌, cond, ℕ, ◌-◌, ◌*◌, ◌/◌, ◌<◌, ◌≤◌, min, leb, length};
@@ -13,7 +14,7 @@ ghost use Rattle.scan.specs.Steps.{resumed, between, packable, settles, decided,
 ghost use Rattle.scan.specs.Found.{Found};
 
 use cursor::is_own;
-use records::{end_at, id_at, span_at, start_at};
+use records::record_at;
 use words::{RECORD_SIZE, RECORD_WIDTH};
 
 // A run: its words, where its leftmost span starts, and the words of its repeat records.
@@ -62,7 +63,7 @@ pub fn count_repeats(records: &[u32], first_repeat: u32, work: &mut [u32])
     let mut count: u32 = 0;
     work[0] = 0;
     for i in 0..n {
-        count += skipped(first_repeat, id_at(records, i));
+        count += skipped(first_repeat, record_at(records, i).id);
         work[i + 1] = count;
     }
 }
@@ -86,12 +87,13 @@ fn resume(at: u32, memo: Memo) -> Memo
 }
 
 // Does the record before place p count alone?
+#[tactic(auto, using(records::proofs::OneRecord::id_is))]
 fn is_mark(records: &[u32], own: Option<u32>, p: usize) -> bool
     requires p_nonzero { 0 < p }
     requires record_width_in_bounds { p * record_width ≤ length records.now }
     ensures { result ≡ same own (id_of records.now (p - 1)) }
 {
-    is_own(own, id_at(records, p - 1))
+    is_own(own, record_at(records, p - 1).id)
 }
 
 // The run from place `from` up to `at` whose leftmost span starts at `start`.
@@ -160,8 +162,9 @@ pub fn find_buffer_size(
     requires { Scannable own records.now work.now lo at bound memo }
     ensures { (F i s e : ℕ) (kids rest : Items) → Scans F own records.now work.now lo at bound memo i s e kids rest → Found F at (e - bound) i s e kids rest (run_from F bound own i s e kids rest) result }
 {
-    let least = end_at(records, at - 1).saturating_sub(bound);
+    let least = record_at(records, at - 1).end.saturating_sub(bound);
     let mut walk = resume(at as u32, memo);
+    // Nested loops left by a label, as document 01 asks (docs/DECISIONS.md, Forms); each span names the place before it.
     'walk: while lo < walk.place as usize {
         while is_mark(records, own, walk.place as usize) {
             walk = Memo {
@@ -175,13 +178,13 @@ pub fn find_buffer_size(
             }
         }
         let p = walk.place as usize;
-        let start = start_at(records, p - 1);
-        if start < least {
+        let r = record_at(records, p - 1);
+        if r.start < least {
             break 'walk;
         }
         walk = Memo {
-            place: (p - span_at(records, p - 1)) as u32,
-            start,
+            place: (p - r.span()) as u32,
+            start: r.start,
             ..walk
         };
         if settled(work, at, walk) {

@@ -10,6 +10,7 @@ ghost use Rattle.search.specs.Answer.{searched_outcome};
 
 use words::{RECORD_WIDTH, Refusal};
 
+// The sides, as C hands them in: of an i8 every value has a meaning, so it is matched once, where it is used, and made no enum before.
 pub const SIDE_BEFORE: i8 = -2;
 
 pub const SIDE_AT_OR_BEFORE: i8 = -1;
@@ -43,6 +44,7 @@ fn way_meets(words: &[u16], from: usize, to: usize) -> bool
     ensures { result ≡ meets words.now (length words.now) from to }
 {
     let mut at = from;
+    // A `while`: each record names the place after it.
     while at < to {
         at = usize::from(words[at + 3]);
     }
@@ -61,6 +63,7 @@ fn way_beyond(words: &[u16], from: usize, to: usize, base: u32) -> Option<usize>
     }
     let base64 = u64::from(base);
     let mut at = from;
+    // A `while`: each record names the place after it.
     while at < to {
         if 4294967295 < base64 + u64::from(words[at + 2]) {
             return Some(at);
@@ -97,6 +100,7 @@ fn find_buffer_child(
 {
     let mut index = from;
     let mut found = None;
+    // A `while`: each record names the place after it.
     while index < to {
         if matches(words, index, position, base, side) {
             if direction > 0 {

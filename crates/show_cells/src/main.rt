@@ -3,13 +3,15 @@
 #![tactic(auto)]
 
 use std::io;
-use tree::CELL_WIDTH;
+use tree::{CELL_WIDTH, HandedIn};
+use words::Refusal;
 
 // How many types of records there are.
 const TYPES: u32 = 4;
 
 type Cell = [u32; CELL_WIDTH];
 
+// The answer on a tree. Each example writes its cells and words apart.
 fn show_with(
     rt: &impl Print,
     cells: &[u32],
@@ -17,12 +19,11 @@ fn show_with(
     start: u32,
     work: &mut [u32],
 ) -> io::Result<()> {
-    if cells::too_little_work(cells, words, &*work) {
-        return println!(rt; "11");
-    }
-    match cells::tree_check(cells, words, TYPES, start, work) {
-        Some(place) => println!(rt; "{place}"),
-        None => println!(rt; "none"),
+    let t = HandedIn { cells, words };
+    match cells::accept(t, TYPES, start, work) {
+        Err(Refusal::Cell(place)) => println!(rt; "{place}"),
+        Err(refusal) => println!(rt; "{}", refusal.number()),
+        Ok(()) => println!(rt; "none"),
     }
 }
 

@@ -1,7 +1,7 @@
 // Reads three lists from the last record back; writes the words of each record and the place before it.
 #![tactic(auto)]
 
-use reader::Record;
+use reader::{Reader, Record};
 use std::io;
 
 // Three records, of which the last holds the two others.
@@ -11,14 +11,13 @@ const P: [u32; 12] = [1, 0, 2, 4, 2, 3, 5, 4, 3, 0, 6, 12];
 const GROUPS: [u32; 20] = [1, 0, 2, 4, 2, 0, 2, 8, 1, 2, 4, 4, 2, 2, 4, 8, 2, 0, 4, 20];
 
 fn show_list(rt: &impl Print, list: &[u32]) -> io::Result<()> {
-    for place in (1..=reader::count(list)).rev() {
-        let Record {
+    for Record { own, before } in Reader::new(list) {
+        let records::Record {
             id,
             start,
             end,
             size,
-            before,
-        } = reader::last_record(list, place);
+        } = own;
         println!(rt; "{id} {start} {end} {size} {before} ")?;
     }
     Ok(())

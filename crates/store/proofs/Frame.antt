@@ -3,19 +3,18 @@ use mathlib.Core.Path.{◌≡◌, refl, sym, subst, ◌∙◌}
 use mathlib.Core.List.{List, [], ◌∷◌}
 use mathlib.Core.Bool.{Bool, true, false, cond}
 use Rattle.std.specs.Prelude.{Option}
-use Prim.Native.Nat.{ℕ, zero, suc, ◌+◌, ◌-◌, min, max, ◌≤◌, ◌<◌}
+use Prim.Native.Nat.{ℕ, suc, ◌+◌, min, max, ◌≤◌, ◌<◌}
 use native.Mathlib.Omega.{arith}
 use borrow.Author.Tests.{eq-eqb, ne_eqb}
 use lib.Dec.{T as So}
-use lib.ListN.{length, get_or, set, length-append, length-set}
-use lib.Seq.{get_or-set_same, get_or-set_other}
+use lib.ListN.{length, get_or, length-append}
 use Rattle.tree.specs.Trees.{Trees, nil, tree, part, nodes, siblings}
 use Rattle.tree.specs.Cells.{packed, id_word}
 use Rattle.tree.specs.Balance.{SetType, in_set, type_under, all_of, total, same_type}
 use Rattle.tree.proofs.BalanceLaws.{same_refl, equal_is, all_of_counted, total_counted}
 use Rattle.store.proofs.Types.{typed_is, typed_part}
 use Rattle.words.specs.Words.{put}
-use Rattle.store.specs.Store.{likes, liked, liked_on, word, stored_kind, Node, Staged, Holds, Same, told, Readable, PushedTree, PushedPart, StagedMore}
+use Rattle.store.specs.Store.{likes, liked, liked_on, word, stored_kind, Node, Staged, Holds, Same, told, Readable, PushedTree, PushedPart}
 use Rattle.words.proofs.Stores.{put_length, put_in, put_before, put_after}
 
 pub same_less : (w w' : List ℕ) (base top low base' top' low' : ℕ) → base ≤ base' → top' ≤ top → low ≤ low' → Same w w' base top low → Same w w' base' top' low'
@@ -252,29 +251,3 @@ module _ (w w' : List ℕ) (top k i s l a n x y z o : ℕ) (room : top + 10 ≤ 
     holds = λ f base low ws rest live above free ei ha hn.
         subst (λ (v : List ℕ). Holds f v base (top + 10) low top (part s l ws rest)) (sym e) (new_part f w top room base low live above free k i s l a n x y z o ws rest ek eo ei ha hn ex ey ez);
   }
-
-pub staged_more : (w : List ℕ) (low x a r : ℕ) → 1 ≤ low → low ≤ length w → x < 65536 → r ≡ low - 1 → a ≡ r → StagedMore w (set w a x) low x r
-staged_more w low x a r pos inside small e f = rw f (record {
-  address = omega arith;
-  kept = record {
-    size = length-set w r x;
-    below = λ j l m. get_or-set_other w r j x 0 (λ q. omega arith);
-    above = λ j l. get_or-set_other w r j x 0 (λ q. omega arith);
-  };
-  holds = λ ws h. record {
-    above = omega arith;
-    within = omega (arith, h.within, length-set w r x);
-    same = λ k l. same ws h k l;
-    narrow = λ k l. narrow ws h k l;
-  };
-})
-  where
-    same : (ws : List ℕ) → Staged w low low ws → (k : ℕ) → k < suc (length ws) → get_or (set w r x) (r + k) 0 ≡ get_or (x ∷ ws) k 0
-    same ws h zero l = let z : r + 0 ≡ r = omega arith in rw z (get_or-set_same w r x 0 (omega arith))
-    same ws h (suc k) l =
-        let z : r + suc k ≡ low + k = omega arith in
-        rw z (get_or-set_other w r (low + k) x 0 (λ q. omega arith) ∙ h.same k (omega arith))
-
-    narrow : (ws : List ℕ) → Staged w low low ws → (k : ℕ) → k < suc (length ws) → get_or (x ∷ ws) k 0 < 65536
-    narrow ws h zero l = small
-    narrow ws h (suc k) l = h.narrow k (omega arith)

@@ -1,16 +1,19 @@
 // Internal, for the build and the balance call.
 // A store of trees in the work slice. A node is written once and never changed, so what its address denotes stays true while
 // the store grows; one pass writes a list of trees out as preorder cells and packed words.
+// Functions take the work slice whole with a place in it: addresses count from its front, and nodes, lists that wait and staged words share
+// the one slice that the caller lends, nodes upwards from its front and words downwards from its end. Whether an address can be read is a
+// fact of both slice and address, so that it stands in each contract: a struct would have to hold the slice, which one node alone could then
+// borrow.
 #![tactic(auto)]
 
-ghost use Rattle.std.specs.Prelude.{◌≡◌, ℕ, max, ◌+◌, ◌-◌, ◌*◌, ◌≤◌, ◌<◌, [], ◌∷◌, eqb, cond};
-ghost use lib.ListN.{length, get_or, drop};
-ghost use Rattle.std.proofs.Math.Seq.{paste};
+ghost use Rattle.std.specs.Prelude.{◌≡◌, ℕ, max, ◌+◌, ◌-◌, ◌*◌, ◌≤◌, ◌<◌, eqb, cond};
+ghost use lib.ListN.{length, get_or};
 ghost use Rattle.tree.specs.Cells.{cell_width};
 ghost use Rattle.words.specs.Words.{put};
 ghost use Rattle.store.specs.Store.{told, typed, kind_written, liked, liked_on, word, Readable, PushedTree, PushedPart, StagedMore, tree_cell, PartReady, PartWritten, Writable, Wrote, TopReady, TopWrote, node_width, node_kind, node_id, node_start, node_length, node_first, node_next, node_cells_place};
 
-use tree::{CELL_WIDTH, Cell};
+use tree::{CELL_WIDTH, Cell, Kind};
 
 // How many words a node has.
 pub const NODE_WIDTH: u32 = 10;
@@ -36,7 +39,8 @@ pub const NODE_TREES: usize = 8;
 
 pub const NODE_LIKE: usize = 9;
 
-// A node's type by its kind and id: kind 1 with any id, 3 with id 0 for none, `FIRST_OF_SET` with id 0.
+// A node's type as its two words: the kind of a tree with any id, of an untyped one with id 0, or `FIRST_OF_SET` with id 0. The kind stays
+// a word: an enum would be made of it at each read and turned back at each write, for one comparison modulo 4.
 #[derive(Clone, Copy)]
 pub struct NodeType {
     pub kind: u32,
@@ -44,7 +48,10 @@ pub struct NodeType {
 }
 
 // The type of trees that have none.
-pub const NONE: NodeType = NodeType { kind: 3, id: 0 };
+pub const NONE: NodeType = NodeType {
+    kind: Kind::Untyped as u32,
+    id: 0,
+};
 
 // The kind of a node that stands for a tree of id 0 where place 0 of the set is none.
 pub const FIRST_OF_SET: u32 = 7;
@@ -155,7 +162,7 @@ pub fn push_tree(
     words::put(
         work,
         top as usize,
-        &[
+        [
             own.kind, own.id, start, length, kids, next, cells, words, trees, sizes,
         ],
     );
@@ -182,7 +189,18 @@ pub fn push_part(
     words::put(
         work,
         top as usize,
-        &[2, count, start, length, from, next, cells, words, trees, 0],
+        [
+            Kind::Part as u32,
+            count,
+            start,
+            length,
+            from,
+            next,
+            cells,
+            words,
+            trees,
+            0,
+        ],
     );
     top
 }
@@ -220,17 +238,17 @@ fn copy_words(words: &[u32], out: &mut [u16])
     }
 }
 
-// The kind of the cell that a tree's node is written as.
+// The kind of the cell that a tree's node is written as, both as words (see `NodeType`).
 fn kind_written(kind: u32) -> u32
     ensures { result ≡ kind_written kind }
 {
     if kind == FIRST_OF_SET {
-        return 1;
+        return Kind::Tree as u32;
     }
     kind
 }
 
-// The cell of the tree at n, after `cell` others.
+// The cell of the tree at n, after `cell` others: cells go by their numbers in the whole output, which links name.
 fn write_tree(work: &[u32], n: usize, from: u32, out: &mut [u32], cell: usize)
     requires node_width_in_bounds { n + node_width ≤ length work.now }
     requires readable { Readable work.now (node_first work.now n) }
@@ -269,7 +287,7 @@ fn write_part(
     let count = work[n + NODE_ID] as usize;
     copy_words(&work[first..first + count], &mut words[word..word + count]);
     let made = Cell {
-        kind: 2,
+        kind: Kind::Part as u32,
         id: 0,
         position: work[n + NODE_START].saturating_sub(from),
         length: work[n + NODE_LENGTH],
@@ -299,6 +317,7 @@ pub fn write_cells(
     let mut sp = bottom;
     let mut cell: usize = 0;
     let mut word: usize = 0;
+    // A `loop`: links are followed, and lists wait on a stack.
     loop {
         if at == 0 {
             if sp == bottom {
@@ -311,7 +330,7 @@ pub fn write_cells(
         }
         let n = at as usize;
         let next = work[n + NODE_NEXT];
-        if work[n + NODE_KIND] == 2 {
+        if Kind::Part.is(work[n + NODE_KIND]) {
             word += write_part(work, n, from, out, cell, words, word);
             cell += 1;
             at = next;
@@ -320,7 +339,7 @@ pub fn write_cells(
         write_tree(work, n, from, out, cell);
         at = work[n + NODE_FIRST];
         let own = work[n + NODE_START];
-        words::put(work, sp, &[next, from]);
+        words::put(work, sp, [next, from]);
         from = own;
         sp += 2;
         cell += 1;
@@ -341,7 +360,10 @@ pub fn write_top(
     requires { TopReady work.old top kids (lib.ListN.length out.old) (lib.ListN.length words.old) }
     ensures { TopWrote work.old top id start length kids out.old out.new words.old words.new }
 {
-    let own = NodeType { kind: 1, id };
+    let own = NodeType {
+        kind: Kind::Tree as u32,
+        id,
+    };
     let root = push_tree(work, top, own, start, length, kids, 0);
     write_cells(work, top + NODE_WIDTH, root, start, out, words);
 }

@@ -204,11 +204,6 @@ module _ (F T b : ℕ) (w l : List ℕ) (whole : Gathered) (s : State) (go : Goi
         end_is : get_or l (under + 2) 0 ≡ k.end
         end_is = rw under_is at frames.end_is
 
-pub close_within : (w l : List ℕ) (s : State) (q : Closes w l s) → (length w / 4 + 1 + 11 * (s.depth - 1) + 11 ≤ length l) × (length w / 4 ≤ 1048576) × (s.depth ≤ 1048576) × (0 < s.depth)
-close_within w l s q =
-    let go = q.going in
-    (omega (arith, frames_below q.F q.T q.b w l q.whole s go, q.deeper, go.room, go.inside), go.few, omega (arith, go.shallow, go.few), q.deeper)
-
 pub close_asks : (w l : List ℕ) (s : State) (q : Closes w l s) (f : Frame) → f ≡ frame_at l (length w / 4 + 1 + 11 * (s.depth - 1))
     → FinishReady l s.low s.children.top s.tree.id s.tree.start s.tree.end s.children.groups s.children.loose s.children.edge f.loose
 close_asks w l s q f f-is = finish_ready q.F q.T q.b w l q.whole s q.going q.deeper q.ended f.loose (ap (λ (x : Frame). x.loose) f-is)

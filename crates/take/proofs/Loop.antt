@@ -3,7 +3,7 @@ use mathlib.Core.Path.{◌≡◌, refl, sym, ap, subst, ◌∙◌}
 use mathlib.Core.Bool.{Bool, true, false, true≢false}
 use mathlib.Core.List.{List, [], ◌∷◌}
 use Rattle.std.specs.Prelude.{Option}
-use Prim.Native.Nat.{ℕ, zero, suc, ◌+◌, ◌-◌, ◌*◌, ◌≤◌, ◌<◌}
+use Prim.Native.Nat.{ℕ, zero, suc, ◌+◌, ◌-◌, ◌≤◌, ◌<◌}
 use native.Mathlib.Omega.{arith}
 use borrow.Author.Tests.{leb-true, leb-false}
 use lib.Dec.{leb}
@@ -77,9 +77,6 @@ module _ {F b : ℕ} {w l : List ℕ} {s : State} where
   pub closed_step : s.p ≤ s.tree.floor → {l' : List ℕ} {t : State} → Closed w l l' s t → Stepped F b w l l' s t
   closed_step h v = record { going = λ q. v.going (closing q h); less = omega (arith, v.same_place, v.depth) }
 
-  pub read_within : Unfinished F b w l s → s.tree.floor < s.p → (0 < s.p) × ((s.p - 1) * 4 + 4 ≤ length w)
-  read_within q h = (omega arith, omega (arith, q.going.shallow))
-
   module _ {own : Option ℕ} (own_is : own ≡ own_at F s.depth s.tree.id) {id : ℕ} (id_is : id ≡ id_of w (s.p - 1)) (inside : s.tree.floor < s.p) where
     pub own_same : (q : Unfinished F b w l s) → own ≡ own_under F q.going.stack s.tree.id
     own_same q = own_is ∙ own_deep F q.going.stack s.depth s.tree.id q.going.depth_is
@@ -130,9 +127,6 @@ module _ (F b : ℕ) (w l₀ : List ℕ) (s₀ : State) where
   pub record Kept (l : List ℕ) (s : State) : Type 0 where
     pub size : length l ≡ length l₀
     pub going : (S : ℕ) (q : BeginsAt F b S w l₀ s₀) → Going F q.T b w l (all_gathered F b S w) s
-
-  pub kept_start : Kept l₀ s₀
-  kept_start = record { size = refl; going = λ S q. q.going }
 
   pub kept_asks : Begins F b w l₀ s₀ → (l : List ℕ) (s : State) → Kept l s → ended s ≡ false → Unfinished F b w l s
   kept_asks p l s k h =

@@ -216,11 +216,6 @@ module _ (w l : List ℕ) (s : State) (node : Node) (memo : Memo) (q : Opens w l
       let h = subst (λ (x : Items). Stands q.F (own_under q.F go.stack s.tree.id) w s.tree.floor s.p x) u.is go.level.stands in
       omega (arith, h.spells.room)
 
-  pub open_within : (0 < s.p) × (s.p ≤ 1048576) × (s.depth ≤ 1048576) × (length w / 4 ≤ 1048576) × (length w / 4 + 1 + 11 * s.depth + 11 ≤ length l)
-  open_within =
-      let go = q.going in
-      (some_record, omega (arith, go.shallow, go.few), omega (arith, go.shallow, go.few), go.few, omega (arith, go.shallow, go.base_is, go.above, go.room, go.inside, some_record))
-
   pub opened : (last : ℕ) (m₀ : Memo) → last ≡ s.p - 1 → last ≤ m₀.place
       → Opened w l (put l (length w / 4 + 1 + 11 * s.depth) (s.tree.id ∷ s.tree.start ∷ s.tree.end ∷ s.tree.floor ∷ s.children.groups ∷ s.children.loose ∷ s.children.edge ∷ memo.place ∷ memo.start ∷ memo.mark ∷ memo.edge ∷ [])) s node memo (record {
         p = last;

@@ -5,7 +5,7 @@ use mathlib.Core.List.{List}
 use Rattle.std.specs.Prelude.{Option, None}
 use Prim.Native.Nat.{ℕ, ◌+◌, ◌-◌, ◌*◌, ◌≤◌, ◌<◌}
 use native.Mathlib.Omega.{arith}
-use lib.ListN.{length, get_or}
+use lib.ListN.{get_or}
 use Rattle.tree.specs.Items.{Items, mark, same}
 use Rattle.tree.specs.Groups.{Gathered, pass}
 use Rattle.tree.specs.Build.{walk}
@@ -79,18 +79,13 @@ module _ (w l : List ℕ) (b : ℕ) (s : State) (q : Passes w l b s) where
   abbrev go : Going q.F q.T b w l q.whole s
   go = q.going
 
-  pub pass_asks : (s.children.top + 10 ≤ length l) × (s.children.top + 10 < 4294967296) × Readable l s.children.groups × Readable l s.children.loose
+  pub pass_asks : Readable l s.children.groups × Readable l s.children.loose
   pass_asks =
       let room : s.children.top + 10 ≤ s.low = omega (arith, go.room, q.some_record) in
       let h = go.level.holds in (
-        omega (arith, room, go.inside),
-        omega (arith, room, go.inside, go.fits),
         readable false l go.base s.children.top s.low s.children.groups go.g.groups (omega (arith, room, go.inside)) h.groups_at,
         readable false l go.base s.children.top s.low s.children.loose go.g.loose (omega (arith, room, go.inside)) h.loose_at,
       )
-
-  pub pass_within : (s.p - 1) * 4 + 4 ≤ length w
-  pass_within = omega (arith, go.shallow, q.some_record)
 
   pub passed_on : (l' : List ℕ) (last id end : ℕ) (c : Gathering) → last ≡ s.p - 1 → id ≡ id_of w last → end ≡ end_of w last
       → PassedOver l l' s.children.top id end b s.children.groups s.children.loose s.children.edge c.top c.groups c.loose c.edge

@@ -3,7 +3,7 @@ use mathlib.Core.Path.{◌≡◌, refl, sym, ap, subst, ◌∙◌}
 use mathlib.Core.Bool.{false}
 use mathlib.Core.List.{List}
 use Rattle.std.specs.Prelude.{Option, None, Some, Result, Ok, Err}
-use Prim.Native.Nat.{ℕ, suc, ◌+◌, ◌-◌, ◌*◌, ◌/◌, ◌≤◌, ◌<◌}
+use Prim.Native.Nat.{ℕ, suc, ◌+◌, ◌-◌, ◌*◌, ◌/◌, ◌≤◌}
 use native.Mathlib.Omega.{arith}
 use lib.ListN.{length}
 use Rattle.words.specs.Words.{id_of, start_of, end_of, last_of}
@@ -15,8 +15,8 @@ use Rattle.cursor.proofs.Spelled.{spells_count}
 use Rattle.scan.specs.Walked.{Remembered, Scans}
 use Rattle.scan.specs.declared.Memo.{Memo}
 use Rattle.scan.proofs.Memory.{remembered_lower}
-use Rattle.reader.specs.Before.{record_before}
-use Rattle.reader.specs.declared.Record.{Record}
+use Rattle.records.specs.OneRecord.{record_of}
+use Rattle.records.specs.declared.Record.{Record}
 use Rattle.pack.specs.Taking.{Filled, Takable, Takes}
 use Rattle.pack.specs.declared.Part.{Part}
 use Rattle.pack.proofs.Held.{takable, filled_same, filled_staged, run_short}
@@ -150,8 +150,8 @@ module _ {F b : ℕ} {own : Option ℕ} {w l : List ℕ} {s : State} (q : Starts
               (omega (arith, v.filled.room)) pushed (rw p_is at place));
         }
 
-  pub pending_asks : (0 < s.p) × (s.p * 4 ≤ length w) × (s.p < 4294967296) × (last_of w (s.p - 1) / 4 ≤ s.p)
-  pending_asks = (omega (arith, q.some_record), omega (arith, within.0), omega (arith, within.0, within.1), omega (arith, last_words.3, last_words.4))
+  pub pending_asks : last_of w (s.p - 1) / 4 ≤ s.p
+  pending_asks = omega (arith, last_words.3, last_words.4)
 
   module _ {l₁ : List ℕ} (m : Memo) (took : Took l₁ (Err m)) where
     stopped : Stopped l₁ m
@@ -179,6 +179,7 @@ module _ {F b : ℕ} {own : Option ℕ} {w l : List ℕ} {s : State} (q : Starts
           }),
         )
 
-pub pending_is : (w : List ℕ) (p : ℕ) (memo : Memo) (r : Record) → r ≡ record_before w p
-    → ◌≡◌ {A = PendingNode} (record { node = record { id = r.id; start = r.start; end = r.end; floor = p - r.size / 4 }; memo = memo }) (pending w p memo)
-pending_is w p memo r h = rw h refl
+pub pending_is : (w : List ℕ) (p : ℕ) (memo : Memo) {r : Record} {m : ℕ} → r ≡ record_of w (p - 1) → m ≡ r.size / 4
+    → ◌≡◌ {A = PendingNode} (record { node = record { id = r.id; start = r.start; end = r.end; floor = p - m }; memo = memo }) (pending w p memo)
+unfolding record_of
+pending_is w p memo {r} {m} h z = rw (z, h) refl

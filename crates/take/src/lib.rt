@@ -58,7 +58,7 @@ pub struct PendingNode {
     pub memo: scan::Memo,
 }
 
-// What a record that is taken has become.
+// What a record that is taken has become: an enum of these two structs, as document 01 asks (docs/DECISIONS.md, Forms).
 #[derive(Clone, Copy)]
 pub enum StartedNode {
     Built(BuiltNode),
@@ -92,6 +92,7 @@ pub fn take_nodes(
     ensures { (S : ℕ) (q : BeginsAt first_repeat bound S records.now work.old from) → TakenAll first_repeat bound S records.now work.new result.top result.low result.kids }
 {
     let mut s = from;
+    // A `while`: a step takes up a record, a run or a tree, or closes a tree.
     while !finished(s) {
         s = step(records, first_repeat, bound, work, s);
     }

@@ -1,10 +1,10 @@
-// What the last record becomes: a part that is built, or a tree whose children are to be read.
+// What the last record becomes: a part that is built, or a tree whose children are to be read. The list goes whole with a place that
+// counts records from its front, as spans do.
 ghost use Rattle.std.specs.Prelude.{◌≡◌, ◌-◌, ◌*◌, ◌/◌, ◌≤◌, ◌<◌, length};
 ghost use Rattle.words.specs.Words.{last_of, record_width};
 ghost use Rattle.take.specs.Starting.{PartReady, PartBuilt, pending, Starts, Started};
 
 use crate::{BuiltNode, Node, PendingNode, StartedNode, State};
-use words::RECORD_SIZE;
 
 // The part of a run, in front of the children of the tree that is read.
 fn built_part(work: &mut [u32], s: State, part: pack::Part) -> BuiltNode
@@ -36,12 +36,12 @@ fn pending_node(records: &[u32], p: usize, memo: scan::Memo) -> PendingNode
     requires record_width_bound { last_of records.now (p - 1) / record_width ≤ p }
     ensures { result ≡ pending records.now p memo }
 {
-    let last = reader::last_record(records, p);
+    let last = reader::last_record(records, p).own;
     let node = Node {
         id: last.id,
         start: last.start,
         end: last.end,
-        floor: (p - (last.size / RECORD_SIZE) as usize) as u32,
+        floor: (p - last.span()) as u32,
     };
     PendingNode { node, memo }
 }

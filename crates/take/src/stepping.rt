@@ -34,9 +34,8 @@ fn pass_record(records: &[u32], bound: u32, work: &mut [u32], s: State) -> State
     ensures { Passed records.now work.old work.new bound s result }
 {
     let p = s.p - 1;
-    let id = records::id_at(records, p);
-    let end = records::end_at(records, p);
-    let children = gathering::pass_over(work, id, end, bound, s.children);
+    let r = records::record_at(records, p);
+    let children = gathering::pass_over(work, r.id, r.end, bound, s.children);
     State { p, children, ..s }
 }
 
@@ -207,8 +206,7 @@ pub fn step(records: &[u32], first_repeat: u32, bound: u32, work: &mut [u32], s:
         return close_tree(records, work, s);
     }
     let own = own_at(first_repeat, s.depth, s.tree.id);
-    let id = records::id_at(records, s.p - 1);
-    if cursor::is_own(own, id) {
+    if cursor::is_own(own, records::record_at(records, s.p - 1).id) {
         return pass_record(records, bound, work, s);
     }
     take_record(records, first_repeat, bound, own, work, s)

@@ -1,4 +1,4 @@
-// The trees that wait: each has a frame in the work slice.
+// The trees that wait: each has a frame in the work slice, which goes whole, as in `store`: nodes and staged words are written behind them.
 ghost use Rattle.std.specs.Prelude.{◌≡◌, [], ◌∷◌, ◌+◌, ◌≤◌, length};
 ghost use Rattle.words.specs.Words.{put};
 ghost use Rattle.take.specs.Going.{frame_at, frame_width};
@@ -22,7 +22,7 @@ pub fn push_frame(
     words::put(
         work,
         at,
-        &[
+        [
             tree.id, tree.start, tree.end, tree.floor, g.groups, g.loose, g.edge, memo.place,
             memo.start, memo.mark, memo.edge,
         ],

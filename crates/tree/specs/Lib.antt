@@ -9,6 +9,7 @@ pub mod Materialise
 pub mod Listing
 pub mod Cells
 pub mod Calls
+pub mod Kind
 pub mod Written
 pub mod Run
 pub mod Well

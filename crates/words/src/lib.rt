@@ -15,18 +15,22 @@ pub const RECORD_WIDTH: usize = 4;
 // The same as a word, as the size of a record counts it.
 pub const RECORD_SIZE: u32 = 4;
 
-// Values from an offset on.
-pub fn put<T: Copy>(out: &mut [T], at: usize, values: &[T])
-    requires { at + length values.now ≤ length out.old }
-    ensures { out.new ≡ put out.old at values.now }
+// Values from an offset on. It is inlined, and its turns with it, so that a few values of fixed number become as many stores.
+#[inline(always)]
+pub fn put<T: Copy, const N: usize>(out: &mut [T], at: usize, values: [T; N])
+    requires { at + N ≤ length out.old }
+    ensures { out.new ≡ put out.old at values }
 {
-    out[at..at + values.len()].copy_from_slice(values);
+    for k in 0..N {
+        out[at + k] = values[k];
+    }
 }
 
 // The four words of a record from an offset on.
+#[inline(always)]
 pub fn put_record<T: Copy>(out: &mut [T], at: usize, id: T, start: T, end: T, last: T)
     requires { at + record_width ≤ length out.old }
     ensures { out.new ≡ put out.old at (id ∷ start ∷ end ∷ last ∷ []) }
 {
-    put(out, at, &[id, start, end, last]);
+    put(out, at, [id, start, end, last]);
 }

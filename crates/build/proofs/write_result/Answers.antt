@@ -2,16 +2,8 @@
 use mathlib.Core.Path.{refl}
 use Prim.Native.Nat.{◌+◌}
 use native.Mathlib.Omega.{arith}
-use Rattle.build.proofs.Writing.{kids_read, refuses_words, top_ready, writes}
+use Rattle.build.proofs.Writing.{refuses_words, top_ready, writes}
 use Rattle.build.proofs.write_result.Goals as goal
-
-pub tell-requires : goal.tell-requires
-tell-requires c =
-    record { readable = kids_read c.args.work.now c.args.first.top c.args.first.kids c.requires; k_lt_node_width = omega arith }
-
-pub tell-packed-requires : goal.tell-packed-requires
-tell-packed-requires c =
-    record { readable = kids_read c.args.work.now c.args.first.top c.args.first.kids c.requires; k_lt_node_width = omega arith }
 
 pub returns-then-words-packed : goal.returns-then-words-packed
 returns-then-words-packed c =

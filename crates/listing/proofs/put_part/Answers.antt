@@ -3,7 +3,7 @@ use mathlib.Core.Path.{◌≡◌, refl, sym, ap, ◌∙◌}
 use mathlib.Core.List.{List}
 use Prim.Native.Nat.{ℕ, ◌+◌, ◌-◌}
 use lib.ListN.{length, take, drop}
-use Rattle.words.specs.Words.{put}
+use Rattle.words.specs.Words.{front}
 use Rattle.tree.specs.Cells.{cell_kind, cell_position, cell_first, cell_count}
 use Rattle.part_lines.specs.Steps as part
 use Rattle.listing.specs.Steps.{cell_lines}
@@ -24,10 +24,10 @@ lines_are F cs ws i q d is =
 pub returns-clause-value : goal.returns-clause-value
 returns-clause-value c =
     let a = c.args in
-    let next : c.list_part.result ≡ a.at + length (cut_lines a.first_repeat a.cells.now a.words.now a.i a.level.base a.level.depth) = c.list_part.ensures.value in
-    next ∙ ap (λ (v : List ℕ). a.at + length v) (lines_are a.first_repeat a.cells.now a.words.now a.i a.level.base a.level.depth c.requires.is)
+    let next : c.list_part.result ≡ length (cut_lines a.first_repeat a.t.cells.now a.t.words.now a.i a.level.base a.level.depth) = c.list_part.ensures.value in
+    next ∙ ap length (lines_are a.first_repeat a.t.cells.now a.t.words.now a.i a.level.base a.level.depth c.requires.is)
 
 pub returns-clause-lines_after : goal.returns-clause-lines_after
 returns-clause-lines_after c =
     let a = c.args in
-    c.list_part.ensures.lines_after ∙ ap (put a.lines.now a.at) (lines_are a.first_repeat a.cells.now a.words.now a.i a.level.base a.level.depth c.requires.is)
+    c.list_part.ensures.lines_after ∙ ap (λ (v : List ℕ). front v a.lines.now) (lines_are a.first_repeat a.t.cells.now a.t.words.now a.i a.level.base a.level.depth c.requires.is)

@@ -3,4 +3,4 @@ use Rattle.materialize.proofs.Handing.{Going}
 use Rattle.materialize.proofs.hand_over.Given as goal
 
 abbrev pub invariant-loop-left : goal.invariant-loop-left
-invariant-loop-left l = Going l.work l.initial.out l.out l.low l.sp l.limit l.start l.left
+invariant-loop-left l = Going l.roots l.initial.out l.out l.limit l.start l.left

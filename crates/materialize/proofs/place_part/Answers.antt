@@ -14,13 +14,13 @@ cut_is : (cs ws : List ℕ) (i : ℕ) → take (cell_first cs i + cell_count cs 
 cut_is cs ws i = cut_same ws (cell_first cs i) (cell_count cs i) (cell_first cs i) (cell_count cs i) refl refl
 
 pub overflow_sub-cell : goal.overflow_sub-cell
-overflow_sub-cell c = (part_few c.requires (cut_is c.args.cells.now c.args.words.now c.args.i)).1
+overflow_sub-cell c = (part_few c.requires (cut_is c.args.t.cells.now c.args.t.words.now c.args.i)).1
 
 pub unpack_part-trees-requires : goal.unpack_part-trees-requires
-unpack_part-trees-requires c = part_ready c.requires (cut_is c.args.cells.now c.args.words.now c.args.i)
+unpack_part-trees-requires c = part_ready c.requires (cut_is c.args.t.cells.now c.args.t.words.now c.args.i)
 
-pub overflow_cast-work : goal.overflow_cast-work
-overflow_cast-work c = omega (arith, (part_few c.requires (cut_is c.args.cells.now c.args.words.now c.args.i)).0)
+pub overflow_cast-marks : goal.overflow_cast-marks
+overflow_cast-marks c = omega (arith, (part_few c.requires (cut_is c.args.t.cells.now c.args.t.words.now c.args.i)).0)
 
 pub returns : goal.returns
-returns c = part_wrote c.requires (cut_is c.args.cells.now c.args.words.now c.args.i) c.unpack_part-trees.ensures c.unpack_part-trees.auto.work c.unpack_part-trees.auto.out
+returns c = part_wrote c.requires (cut_is c.args.t.cells.now c.args.t.words.now c.args.i) c.unpack_part-trees.ensures c.unpack_part-trees.auto.roots c.unpack_part-trees.auto.out

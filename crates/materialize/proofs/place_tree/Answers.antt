@@ -10,8 +10,8 @@ overflow_sub-at c = (tree_few c.requires c.saturating_sub-left.ensures c.staying
 pub push-requires : goal.push-requires
 push-requires c = tree_ready c.requires c.saturating_sub-left.ensures c.staying-kept.ensures
 
-pub overflow_cast-work : goal.overflow_cast-work
-overflow_cast-work c = omega (arith, (tree_few c.requires c.saturating_sub-left.ensures c.staying-kept.ensures).0)
+pub overflow_cast-marks : goal.overflow_cast-marks
+overflow_cast-marks c = omega (arith, (tree_few c.requires c.saturating_sub-left.ensures c.staying-kept.ensures).0)
 
 pub overflow_sub-result : goal.overflow_sub-result
 overflow_sub-result c = (tree_few c.requires c.saturating_sub-left.ensures c.staying-kept.ensures).1
@@ -22,4 +22,4 @@ overflow_add-result c = omega (arith, (tree_few c.requires c.saturating_sub-left
 pub returns : goal.returns
 returns c =
     let written = simp add-zero at c.push.ensures in
-    tree_wrote c.requires c.saturating_sub-left.ensures c.staying-kept.ensures written c.push.auto.work c.push.auto.out
+    tree_wrote c.requires c.saturating_sub-left.ensures c.staying-kept.ensures written c.push.auto.roots c.push.auto.out

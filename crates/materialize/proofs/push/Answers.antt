@@ -18,15 +18,15 @@ overflow_sub-sp c = (taken_fits c.requires).below
 pub overflow_cast-sp : goal.overflow_cast-sp
 overflow_cast-sp c = omega (arith, (taken_fits c.requires).few)
 
-pub offset_bounds-work-kept : goal.offset_bounds-work-kept
-offset_bounds-work-kept c = omega (arith, (taken_fits c.requires).deep)
+pub offset_bounds-roots-kept : goal.offset_bounds-roots-kept
+offset_bounds-roots-kept c = omega (arith, (taken_fits c.requires).deep)
 
-pub bounds-work-kept : goal.bounds-work-kept
-bounds-work-kept c = (taken_fits c.requires).deep
+pub bounds-roots-kept : goal.bounds-roots-kept
+bounds-roots-kept c = (taken_fits c.requires).deep
 
 pub returns : goal.returns
 returns c =
     let a = c.args in
-    push_law a.work.now a.out.now c.end_links.new.out c.put_cell.new.out
+    push_law a.roots.now a.out.now c.end_links.new.out c.put_cell.new.out
     a.cell a.kept a.sp a.node.kind a.node.id a.node.start a.node.len
     c.first_child-first.result c.next_sibling-next.result c.first_child-first.ensures c.next_sibling-next.ensures c.end_links.ensures c.put_cell.ensures

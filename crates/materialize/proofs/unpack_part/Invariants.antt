@@ -3,4 +3,4 @@ use Rattle.materialize.proofs.Unpacking.{Unpacking}
 use Rattle.materialize.proofs.unpack_part.Given as goal
 
 abbrev pub invariant-loop-i : goal.invariant-loop-i
-invariant-loop-i l = Unpacking l.initial.work l.work l.initial.out l.out l.cell l.position l.sp l.part l.left l.i
+invariant-loop-i l = Unpacking l.initial.roots l.roots l.initial.out l.out l.cell l.position l.sp l.part l.left l.i

@@ -42,12 +42,8 @@ module _ {t : ℕ} (c : In-loop-q t) where
 pub returns-then-first_repeat-records : goal.returns-then-first_repeat-records
 returns-then-first_repeat-records t c = λ lo off its r some. L.copies_repeat c.args.first_repeat c.args.records.now c.args.start lo off its c.args.part.now c.requires.whole r some c.if-first_repeat-records.true
 
-pub begins-requires : goal.begins-requires
-begins-requires t c = record {
-  p_nonzero = omega (arith, c.requires.some_record);
-  p_in_bounds = omega arith;
-  p_bound = (inside (goal.at.begins-requires t c).At-loop-q).size;
-}
+pub begins-requires-clause-p_bound : goal.begins-requires-clause-p_bound
+begins-requires-clause-p_bound t c = (inside (goal.at.begins-requires-clause-p_bound t c).At-loop-q).size
 
 pub copy_to_buffer-k-requires : goal.copy_to_buffer-k-requires
 copy_to_buffer-k-requires t c =
@@ -57,10 +53,8 @@ copy_to_buffer-k-requires t c =
       L.copyable_cut c.args.first_repeat c.args.records.now _ _ f c.args.start _ _ _ _ _ _ c.loop-q.invariant.0 (copied i.At-loop-q) (left_at i.In-loop-q) c.requires.short,
     )
 
-pub skip_node-q-requires : goal.skip_node-q-requires
-skip_node-q-requires t c =
-    let z = step_at (goal.at.skip_node-q-requires t c).In-loop-q in
-    record { record_width_le_p = z.some_record; p_in_bounds = z.within; p_bound = z.size }
+pub skip_node-q-requires-clause-p_bound : goal.skip_node-q-requires-clause-p_bound
+skip_node-q-requires-clause-p_bound t c = (step_at (goal.at.skip_node-q-requires-clause-p_bound t c).In-loop-q).size
 
 pub loop-q-smaller : goal.loop-q-smaller
 loop-q-smaller t c = omega (arith, c.skip_node-q.ensures, (step_at (goal.at.loop-q-smaller t c).In-loop-q).less)

@@ -1,13 +1,6 @@
 -- `pack::pack_node` meets its contract: the run's words fill the part of the work slice below `low`. Assumes nothing.
-use mathlib.Core.Path.{sym}
-use Prim.Native.Nat.{◌*◌}
-use lib.Seq.{length-take-le}
 use Rattle.pack.proofs.Pack.{packable_fillable, packable_filled}
 use Rattle.pack.proofs.pack_node.Goals as goal
-
-pub slice_bounds-copy_nodes-end : goal.slice_bounds-copy_nodes-end
-slice_bounds-copy_nodes-end c =
-    sym (length-take-le (c.args.p * 4) c.args.records.now c.requires.runs.stands.within)
 
 pub copy_nodes-requires : goal.copy_nodes-requires
 copy_nodes-requires c =

@@ -26,10 +26,6 @@ loop-i-init c =
     let same = same_length c.args.words.now c.args.from 0 c.requires.record_width_len in
     (refl, stack_none v c.args.ends.now (omega (arith, same, c.requires.record_width_in_bounds)), counted_none v, ap (faults_from v c.args.types 0) (omega arith))
 
-pub check_record-requires : goal.check_record-requires
-check_record-requires c =
-    record { record_width_len = c.requires.record_width_len; record_width_in_bounds = omega (arith, c.loop-i-test.true); stack = c.loop-i.invariant.1 }
-
 pub returns-in-Err : goal.returns-in-Err
 returns-in-Err c =
     let i = c.loop-i.i in

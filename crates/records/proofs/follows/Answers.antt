@@ -3,4 +3,4 @@ use Rattle.records.proofs.Spelling as S
 use Rattle.records.proofs.follows.Goals as goal
 
 pub returns : goal.returns
-returns c = rw (c.behind_at.ensures, c.start_at.ensures, S.behind_all c.args.records.now c.args.from c.requires.spelt c.args.start)
+returns c = rw (c.behind_at.ensures, S.behind_all c.args.records.now c.args.from c.requires c.args.start)

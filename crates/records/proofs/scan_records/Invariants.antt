@@ -6,4 +6,4 @@ use Rattle.records.proofs.Scanning as C
 use Rattle.records.proofs.scan_records.Given as goal
 
 abbrev pub invariant-loop-i : goal.invariant-loop-i
-invariant-loop-i l = C.Scanning l.types l.start l.records l.initial.work l.work (length l.records / 4) l.i l.height l.ordered
+invariant-loop-i l = C.Scanning l.types l.start l.records l.levels l.siblings (length l.records / 4) l.i l.height l.ordered

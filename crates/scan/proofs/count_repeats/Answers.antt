@@ -1,5 +1,6 @@
 -- `scan::count_repeats` meets its contract: the counts are written from the first place on, and nothing else. Assumes nothing.
 use native.Mathlib.Omega.{arith}
+use Rattle.records.proofs.OneRecord.{id_is}
 use Rattle.scan.proofs.Counts.{tally_none, tally_small, tally_next}
 use Rattle.scan.proofs.count_repeats.Goals as goal
 
@@ -12,5 +13,5 @@ overflow_add-count c =
 
 pub loop-i-preserved : goal.loop-i-preserved
 loop-i-preserved c =
-    tally_next _ _ _ _ _ _ c.loop-i.invariant _ _ c.id_at.ensures c.skipped-count.ensures
+    tally_next _ _ _ _ _ _ c.loop-i.invariant _ _ (id_is _ _ c.record_at.ensures) c.skipped-count.ensures
     (omega (arith, c.loop-i.invariant.so_far.size, c.requires.record_width_in_bounds))

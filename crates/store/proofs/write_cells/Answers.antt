@@ -1,5 +1,6 @@
 -- `store::write_cells` meets its contract: the cells and words done stand at the front of the outputs. Assumes nothing.
 use native.Mathlib.Nat.{add-zero}
+use borrow.Author.Tests.{eqb-true, eqb-false}
 use native.Mathlib.Omega.{arith}
 use Rattle.store.proofs.Writer.{going_start, total, going_end, going_pop, node_inside, cells_left, cell_room, part_ready, tree_ready, going_tree, going_part}
 use Rattle.store.proofs.Flow.{end}
@@ -37,21 +38,21 @@ pub bounds-work-n-in-loop-at-3 : goal.bounds-work-n-in-loop-at-3
 bounds-work-n-in-loop-at-3 c = omega (arith, node_inside c.loop-at.invariant.3 c.if-at-eq0.false)
 
 pub write_part-word-requires : goal.write_part-word-requires
-write_part-word-requires c = part_ready c.loop-at.invariant.3 c.if-at-eq0.false (simp add-zero at c.if-work-n-eq2.true)
+write_part-word-requires c = part_ready c.loop-at.invariant.3 c.if-at-eq0.false (eqb-true _ _ (simp (c.is.ensures, add-zero) at c.if-is.true))
 
-pub loop-at-smaller-then-work-n-eq2 : goal.loop-at-smaller-then-work-n-eq2
-loop-at-smaller-then-work-n-eq2 c = omega (arith, cells_left c.loop-at.invariant.3 c.if-at-eq0.false, total c.loop-at.invariant.0)
+pub loop-at-smaller-then-is : goal.loop-at-smaller-then-is
+loop-at-smaller-then-is c = omega (arith, cells_left c.loop-at.invariant.3 c.if-at-eq0.false, total c.loop-at.invariant.0)
 
-pub loop-at-preserved-then-work-n-eq2 : goal.loop-at-preserved-then-work-n-eq2
-loop-at-preserved-then-work-n-eq2 c =
-    let q = (going_part c.loop-at.invariant.3 c.if-at-eq0.false (simp add-zero at c.if-work-n-eq2.true) c.write_part-word.ensures).1 in
+pub loop-at-preserved-then-is : goal.loop-at-preserved-then-is
+loop-at-preserved-then-is c =
+    let q = (going_part c.loop-at.invariant.3 c.if-at-eq0.false (eqb-true _ _ (simp (c.is.ensures, add-zero) at c.if-is.true)) c.write_part-word.ensures).1 in
     (c.loop-at.invariant.0, q.0, q.1, q.2)
 
 pub write_tree-requires : goal.write_tree-requires
 write_tree-requires c =
     let going = c.loop-at.invariant.3 in
     let live = c.if-at-eq0.false in
-    let r = tree_ready going live (simp add-zero at c.if-work-n-eq2.false) in
+    let r = tree_ready going live (eqb-false _ _ (simp (c.is.ensures, add-zero) at c.if-is.false)) in
     record {
       node_width_in_bounds = node_inside going live;
       readable = r.kids_read;
@@ -60,12 +61,12 @@ write_tree-requires c =
     }
 
 pub put-requires : goal.put-requires
-put-requires c = (tree_ready c.loop-at.invariant.3 c.if-at-eq0.false (simp add-zero at c.if-work-n-eq2.false)).stack
+put-requires c = (omega arith, (tree_ready c.loop-at.invariant.3 c.if-at-eq0.false (eqb-false _ _ (simp (c.is.ensures, add-zero) at c.if-is.false))).stack)
 
 pub loop-at-smaller : goal.loop-at-smaller
 loop-at-smaller c = omega (arith, cells_left c.loop-at.invariant.3 c.if-at-eq0.false, total c.loop-at.invariant.0, c.loop-at.invariant.3.inside)
 
 pub loop-at-preserved : goal.loop-at-preserved
 loop-at-preserved c =
-    let q = going_tree c.loop-at.invariant.3 c.if-at-eq0.false (simp add-zero at c.if-work-n-eq2.false) c.write_tree.ensures c.put.ensures in
+    let q = going_tree c.loop-at.invariant.3 c.if-at-eq0.false (eqb-false _ _ (simp (c.is.ensures, add-zero) at c.if-is.false)) c.write_tree.ensures c.put.ensures in
     (c.loop-at.invariant.0, q.0, q.1, q.2)

@@ -3,4 +3,4 @@ use Rattle.cells.proofs.PartLoop.{Going}
 use Rattle.cells.proofs.parts.part_kept.Given as goal
 
 abbrev pub invariant-loop-i : goal.invariant-loop-i
-invariant-loop-i l = Going l.types l.len l.part l.at l.initial.ends l.initial.work l.ends l.work l.s l.low l.i
+invariant-loop-i l = Going l.types l.len l.part l.indices l.ends l.s l.low l.i

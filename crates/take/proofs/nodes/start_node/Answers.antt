@@ -8,10 +8,8 @@ take_run-requires c = take_asks c.requires
 pub built_part-requires : goal.built_part-requires
 built_part-requires c = part_asks c.requires c.in-Ok.part c.in-Ok.ensures
 
-pub pending_node-requires : goal.pending_node-requires
-pending_node-requires c =
-    let p = pending_asks c.requires in
-    record { p_nonzero = p.0; record_width_in_bounds = p.1; p_bound = p.2; record_width_bound = p.3 }
+pub pending_node-requires-clause-record_width_bound : goal.pending_node-requires-clause-record_width_bound
+pending_node-requires-clause-record_width_bound c = pending_asks c.requires
 
 pub returns-in-Ok : goal.returns-in-Ok
 returns-in-Ok c = λ q. started_part q c.in-Ok.part c.in-Ok.ensures _ _ c.built_part.ensures
