@@ -12,7 +12,7 @@ use mir.Syntax.{w8}
 use mir.Facts.{to_z-of_z}
 use Rattle.search.specs.Search.{way, way_to, choose, matching, child}
 use Rattle.search.specs.Way.{Linked}
-use Rattle.search.proofs.Way.{Ahead, way_next, choose_first}
+use Rattle.search.proofs.Steps.{Ahead, way_next, choose_first}
 
 pub first_forward : (w : List ℕ) (from to : ℕ) (direction : ℤ) (position base : ℕ) (side : ℤ) (at f : ℕ) (d : Option ℕ) → Linked w from to → SFits w8 direction → SFits w8 side → at < to → Ahead w to at f → choose (matching w position base (to_z w8 (of_z w8 side))) (lt_z (pos 0) (to_z w8 (of_z w8 direction))) None (way_to w from to) ≡ choose (matching w position base (to_z w8 (of_z w8 side))) (lt_z (pos 0) (to_z w8 (of_z w8 direction))) d (way w f at to) → true ≡ matching w position base (to_z w8 (of_z w8 side)) at → lt_z (pos 0) (to_z w8 (of_z w8 direction)) ≡ true → child w from to direction position base side ≡ Some at
 unfolding child

@@ -1,6 +1,8 @@
 pub mod Sides
-pub mod Way
+pub mod Walk
 pub mod Cases
 pub mod Constants
 pub mod Near
+pub mod Found
+pub mod Steps
 pub mod Forward

@@ -2,9 +2,10 @@
 #![tactic(auto)]
 
 ghost use Rattle.std.specs.Prelude.{◌≡◌, ◌+◌, ◌≤◌, length};
+ghost use Rattle.std.specs.Iterator.{YieldsFirst, item_count};
 ghost use Rattle.words.specs.Words.{record_width};
 ghost use Rattle.search.specs.Side.{on_side};
-ghost use Rattle.search.specs.Search.{matching, meets, beyond, child, search_part};
+ghost use Rattle.search.specs.Search.{way_to, matching, meets, beyond, child, search_part};
 ghost use Rattle.search.specs.Way.{Linked};
 ghost use Rattle.search.specs.Answer.{searched_outcome};
 
@@ -38,17 +39,52 @@ fn check_side(side: i8, position: u64, from: u64, to: u64) -> bool
     }
 }
 
+// The way from an offset to a bound: the offsets of the records met, each of which names the place after it.
+#[derive(Clone, Copy)]
+struct Way<'a> {
+    words: &'a [u16],
+    at: usize,
+    to: usize,
+}
+
+impl<'a> Way<'a> {
+    fn new(words: &'a [u16], at: usize, to: usize) -> Way<'a>
+        ensures { result ≡ record { words = words.entry; at = at; to = to } }
+    {
+        Way { words, at, to }
+    }
+}
+
+impl<'a> Iterator for Way<'a> {
+    type Item = usize;
+
+    ghost can_next = { λ s. Linked s.words.now s.at s.to };
+
+    ghost next_gives = { YieldsFirst (λ s. way_to s.words.now s.at s.to) };
+
+    ghost remaining = { item_count (λ s. way_to s.words.now s.at s.to) };
+
+    fn next(&mut self) -> Option<usize> {
+        let at = self.at;
+        if self.to <= at {
+            return None;
+        }
+        self.at = usize::from(self.words[at + 3]);
+        Some(at)
+    }
+}
+
 // Whether following end indices from one bound meets the other.
 fn way_meets(words: &[u16], from: usize, to: usize) -> bool
     requires { Linked words.now from to }
     ensures { result ≡ meets words.now (length words.now) from to }
 {
-    let mut at = from;
-    // A `while`: each record names the place after it.
-    while at < to {
-        at = usize::from(words[at + 3]);
+    // Where the last record met leads.
+    let mut end = from;
+    for at in Way::new(words, from, to) {
+        end = usize::from(words[at + 3]);
     }
-    at == to
+    end == to
 }
 
 // The first record on the way whose end, with the base, is past 32 bits. An end has 16 bits, so a base that leaves
@@ -62,13 +98,10 @@ fn way_beyond(words: &[u16], from: usize, to: usize, base: u32) -> Option<usize>
         return None;
     }
     let base64 = u64::from(base);
-    let mut at = from;
-    // A `while`: each record names the place after it.
-    while at < to {
+    for at in Way::new(words, from, to) {
         if 4294967295 < base64 + u64::from(words[at + 2]) {
             return Some(at);
         }
-        at = usize::from(words[at + 3]);
     }
     None
 }
@@ -85,7 +118,7 @@ fn matches(words: &[u16], at: usize, position: u32, base: u32, side: i8) -> bool
 }
 
 // The first match on the way in a direction above 0, else the last.
-#[tactic(auto, using(crate::proofs::Forward::first_forward))]
+#[tactic(auto, using(crate::proofs::Found::found_forward))]
 fn find_buffer_child(
     words: &[u16],
     from: usize,
@@ -98,17 +131,14 @@ fn find_buffer_child(
     requires { Linked words.now from to }
     ensures { result ≡ child words.now from to direction position base side }
 {
-    let mut index = from;
     let mut found = None;
-    // A `while`: each record names the place after it.
-    while index < to {
-        if matches(words, index, position, base, side) {
+    for at in Way::new(words, from, to) {
+        if matches(words, at, position, base, side) {
             if direction > 0 {
-                return Some(index);
+                return Some(at);
             }
-            found = Some(index);
+            found = Some(at);
         }
-        index = usize::from(words[index + 3]);
     }
     found
 }

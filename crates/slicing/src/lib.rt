@@ -76,10 +76,8 @@ pub fn slice(
     if let Some(i) = starts_below(cut, base) {
         return Err(Refusal::BaseAbove(from + i * RECORD_WIDTH));
     }
-    let figures = match part::check_cut(cut, types, from as u16) {
-        Ok(figures) => figures,
-        Err(bad) => return Err(Refusal::Packed(bad.fault, from + bad.at)),
-    };
+    let checked = part::check_cut(cut, types, from as u16);
+    let figures = checked.map_err(|bad| Refusal::Packed(bad.fault, from + bad.at))?;
     if out.len() < to - from {
         return Err(Refusal::LittleWords);
     }

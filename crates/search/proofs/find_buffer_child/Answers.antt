@@ -1,95 +1,67 @@
 -- `search::find_buffer_child` meets its contract. The invariant: the choice along the way that is left, with what was found so far as its default, is
 -- the choice along the whole way. Assumes nothing.
-use Rattle.search.proofs.Way.{ahead_first, ahead_next, way_next, way_stop, choose_none, choose_on, nearer, readable}
-use Rattle.search.specs.Way.{Linked}
-use Rattle.search.specs.Search.{way, way_to, choose, matching, child}
-use Rattle.std.specs.Prelude.{None, Some}
-use mir.Facts.{to_z-of_z}
-use mir.Val.{to_z, of_z}
-use mir.Syntax.{w8}
+use Rattle.std.proofs.Common.{rules, false, ◌≡◌, ℕ, Bool, List, ◌∷◌, pos, to_z, of_z, w8, sym, ap, ◌∙◌}
 use lib.Signed.{lt_z}
-use Rattle.std.proofs.Common.{rules}
-use lib.IntN.{pos}
-use lib.ListN.{get_or, length}
-use native.Mathlib.Omega.{arith}
-use Prim.Native.Nat.{ℕ, ◌≤◌, ◌+◌, ◌-◌}
-use mathlib.Core.Bool.{Bool, true, false}
-use mathlib.Core.List.{List, ◌∷◌}
-use mathlib.Core.Path.{◌≡◌, sym, ◌∙◌, refl, ap}
-use Rattle.search.proofs.find_buffer_child.Goals.{In-loop-index, Start}
+use mir.Facts.{to_z-of_z}
+use Rattle.std.specs.Prelude.{None}
+use Rattle.search.specs.Search.{way_to, choose, matching, child}
+use Rattle.search.proofs.Walk.{Readable, starts, choose_none, choose_later, choose_miss}
+use Rattle.search.proofs.find_buffer_child.Goals.{Start, In-Some}
 use Rattle.search.proofs.find_buffer_child.Goals as goal
-
--- at a turn: the end indices can be followed, and the record at the index can be read
-module _ (i : In-loop-index) where
-  abbrev w₁ : List ℕ
-  w₁ = i.args.words.now
-
-  abbrev a₁ : ℕ
-  a₁ = i.loop-index.index
-
-  abbrev f₁ : ℕ
-  f₁ = i.loop-index.invariant.0
-
-  linked_at : Linked w₁ i.args.from i.args.to
-  linked_at = i.requires
-
-  read_at : a₁ + 4 ≤ length w₁
-  read_at = readable w₁ _ _ linked_at a₁ f₁ i.loop-index-test.true i.loop-index.invariant.1
 
 -- a signed parameter is its bits in the invariant, and its value again in the contract
 module _ (s : Start) where
+  abbrev forward₁ : Bool
+  forward₁ = lt_z (pos 0) (to_z w8 (of_z w8 s.args.direction))
+
+  abbrev test₁ : ℕ → Bool
+  test₁ = matching s.args.words.now s.args.position s.args.base (to_z w8 (of_z w8 s.args.side))
+
   direction_at : to_z w8 (of_z w8 s.args.direction) ≡ s.args.direction
   direction_at = to_z-of_z s.ranges.direction
 
   side_at : to_z w8 (of_z w8 s.args.side) ≡ s.args.side
   side_at = to_z-of_z s.ranges.side
 
-  child_at : child s.args.words.now s.args.from s.args.to s.args.direction s.args.position s.args.base s.args.side
-      ≡ choose (matching s.args.words.now s.args.position s.args.base (to_z w8 (of_z w8 s.args.side))) (lt_z (pos 0) (to_z w8 (of_z w8 s.args.direction))) None (way_to s.args.words.now s.args.from s.args.to)
+  child_at : child s.args.words.now s.args.from s.args.to s.args.direction s.args.position s.args.base s.args.side ≡ choose test₁ forward₁ None (way_to s.args.words.now s.args.from s.args.to)
   unfolding child
   child_at = rw (direction_at, side_at)
 
--- one record further on the way, whatever was found before it
-module _ (i : In-loop-index) where
-  abbrev forward₁ : Bool
-  forward₁ = lt_z (pos 0) (to_z w8 (of_z w8 i.args.direction))
+-- at a record of the way: it and the rest
+module _ (c : In-Some) where
+  abbrev start₁ : Start
+  start₁ = (goal.at.In-Some c).Start
 
-  abbrev test₁ : ℕ → Bool
-  test₁ = matching (w₁ i) i.args.position i.args.base (to_z w8 (of_z w8 i.args.side))
+  abbrev rest₁ : List ℕ
+  rest₁ = way_to c.next.new.self.words.now c.next.new.self.at c.next.new.self.to
 
-  step_at : (n : ℕ) → n ≡ get_or (w₁ i) (a₁ i + 3) 0 → choose test₁ forward₁ None (way_to (w₁ i) i.args.from i.args.to) ≡ choose test₁ forward₁ i.loop-index.found (a₁ i ∷ way (w₁ i) (f₁ i - 1) n i.args.to)
-  step_at n e = i.loop-index.invariant.2 ∙ ap (choose test₁ forward₁ i.loop-index.found) (way_next (w₁ i) _ _ (linked_at i) (a₁ i) (f₁ i) n i.loop-index-test.true i.loop-index.invariant.1 e)
+  here : choose (test₁ start₁) (forward₁ start₁) None (way_to c.args.words.now c.args.from c.args.to) ≡ choose (test₁ start₁) (forward₁ start₁) c.loop-at.found (c.in-Some.at ∷ rest₁)
+  here = c.loop-at.invariant.3 ∙ ap (choose (test₁ start₁) (forward₁ start₁) c.loop-at.found) c.in-Some.ensures.steps
 
-pub loop-index-init : goal.loop-index-init
-loop-index-init c = (length c.args.words.now, ahead_first _ _ _ c.requires, refl)
+  readable_rest : Readable c.args.words.now rest₁
+  readable_rest = (rw c.in-Some.ensures.steps at c.loop-at.invariant.2).1
 
-pub matches-requires : goal.matches-requires
-matches-requires c = omega (arith, read_at (goal.at.matches-requires c).In-loop-index)
+pub loop-at-init : goal.loop-at-init
+loop-at-init c =
+    let a = c.args in
+    let s = starts a.words a.from a.to c.into_iter-at-iterator.result c.requires (c.into_iter-at-iterator.ensures.into_iter_gives ∙ c.new-at-items.ensures) in
+    let t = (goal.at.loop-at-init c).Start in
+    (s.0, tt, s.1, ap (choose (test₁ t) (forward₁ t) None) s.2)
 
-pub overflow_add-index : goal.overflow_add-index
-overflow_add-index c = omega (arith, read_at (goal.at.overflow_add-index c).In-loop-index)
+pub loop-at-preserved-then-matches : goal.loop-at-preserved-then-matches
+loop-at-preserved-then-matches c =
+    let i = (goal.at.loop-at-preserved-then-matches c).In-Some in
+    let s = start₁ i in
+    let back : forward₁ s ≡ false = search rules in
+    (c.in-Some.ensures.goes.keeps, tt, readable_rest i, here i ∙ choose_later (test₁ s) (forward₁ s) c.loop-at.found c.in-Some.at (rest₁ i) (sym c.matches.ensures ∙ c.if-matches.true) back)
 
-pub offset_bounds-words-index : goal.offset_bounds-words-index
-offset_bounds-words-index c = omega (arith, read_at (goal.at.offset_bounds-words-index c).In-loop-index)
-
-pub bounds-words-index : goal.bounds-words-index
-bounds-words-index c = omega (arith, read_at (goal.at.bounds-words-index c).In-loop-index)
-
-pub loop-index-smaller : goal.loop-index-smaller
-loop-index-smaller c =
-    nearer (w₁ (goal.at.loop-index-smaller c).In-loop-index) _ _ (linked_at (goal.at.loop-index-smaller c).In-loop-index) (a₁ (goal.at.loop-index-smaller c).In-loop-index) (f₁ (goal.at.loop-index-smaller c).In-loop-index) c.from-index.result c.loop-index-test.true c.loop-index.invariant.1 c.from-index.ensures
-
-pub loop-index-preserved : goal.loop-index-preserved
-loop-index-preserved c =
-    let i = (goal.at.loop-index-preserved c).In-loop-index in
-    let n = c.from-index.result in
-    let next = ahead_next (w₁ i) _ _ (linked_at i) (a₁ i) (f₁ i) n c.loop-index-test.true c.loop-index.invariant.1 c.from-index.ensures in
-    let hit : c.matches.result ≡ true → (forward₁ i ≡ false) × (c.if-matches.found ≡ Some (a₁ i)) = λ e. search rules in
-    let miss : c.matches.result ≡ false → c.if-matches.found ≡ c.loop-index.found = λ e. search rules in
-    (f₁ i - 1, next, step_at i n c.from-index.ensures ∙ choose_on (test₁ i) (forward₁ i) _ (a₁ i) (way (w₁ i) (f₁ i - 1) n c.args.to) c.if-matches.found (λ e. hit (c.matches.ensures ∙ e)) (λ e. miss (c.matches.ensures ∙ e)))
+pub loop-at-preserved : goal.loop-at-preserved
+loop-at-preserved c =
+    let i = (goal.at.loop-at-preserved c).In-Some in
+    let s = start₁ i in
+    (c.in-Some.ensures.goes.keeps, tt, readable_rest i, here i ∙ choose_miss (test₁ s) (forward₁ s) c.loop-at.found c.in-Some.at (rest₁ i) (sym c.matches.ensures ∙ c.if-matches.false))
 
 pub returns : goal.returns
 returns c =
-    let forward = lt_z (pos 0) (to_z w8 (of_z w8 c.args.direction)) in
-    let test = matching c.args.words.now c.args.position c.args.base (to_z w8 (of_z w8 c.args.side)) in
-    sym (child_at (goal.at.returns c).Start ∙ c.loop-index.invariant.2 ∙ ap (choose test forward c.loop-index.found) (way_stop c.args.words.now c.loop-index.invariant.0 c.loop-index.index c.args.to c.loop-index-test.false) ∙ choose_none test forward _)
+    let s = (goal.at.returns c).Start in
+    sym (child_at s ∙ c.loop-at.invariant.3 ∙ ap (choose (test₁ s) (forward₁ s) c.loop-at.found) c.in-None.ensures.steps.0 ∙ choose_none (test₁ s) (forward₁ s) c.loop-at.found)

@@ -1,13 +1,13 @@
--- `search::way_meets` meets its contract. The invariant: the way that is left meets the second bound where the whole way does. Assumes nothing.
-use Rattle.search.proofs.Way.{Ahead}
-use Rattle.search.specs.Search.{meets}
-use lib.ListN.{length}
-use Prim.Native.Nat.{ℕ, ◌-◌}
-use mathlib.Core.Path.{◌≡◌}
+-- `search::way_meets` meets its contract. The invariant: the way that is left ends, from the place reached, where the whole way does. Assumes nothing.
+use Rattle.std.proofs.Common.{◌≡◌}
+use Rattle.search.specs.Search.{way_to}
+use Rattle.search.proofs.Walk.{Readable, way_end}
 use Rattle.search.proofs.way_meets.Given as goal
 
 abbrev pub invariant-loop-at : goal.invariant-loop-at
-invariant-loop-at l = (f : ℕ) × Ahead l.words l.to l.at f × (meets l.words (length l.words) l.from l.to ≡ meets l.words f l.at l.to)
-
-abbrev pub decreases-loop-at : goal.decreases-loop-at
-decreases-loop-at l = length l.words - l.at
+invariant-loop-at l =
+    let rest = way_to l.at-iterator.words.now l.at-iterator.at l.at-iterator.to in
+    (goal.iterator-loop-at).can_next l.at-iterator
+    × (goal.iterator-loop-at).is_finite l.at-iterator
+    × Readable l.words rest
+    × (way_end l.words l.from (way_to l.words l.from l.to) ≡ way_end l.words l.end rest)

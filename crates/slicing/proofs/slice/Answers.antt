@@ -1,5 +1,5 @@
 -- `slicing::slice` meets its contract: each return is one case of the definition. Assumes nothing.
-use Rattle.std.proofs.Common.{arith, length, get_or, ◌≡◌, ℕ, ◌+◌, ◌-◌, ◌*◌, ◌/◌, ◌≤◌, ◌<◌, List, None}
+use Rattle.std.proofs.Common.{arith, rules, length, get_or, ◌≡◌, ℕ, ◌+◌, ◌-◌, ◌*◌, ◌/◌, ◌≤◌, ◌<◌, List, None}
 use Rattle.std.proofs.lemmas.Result.{err_from_is_err_and}
 use mathlib.Core.Path.{sym, ap, ◌∙◌}
 use lib.Dec.{ltb}
@@ -9,6 +9,9 @@ use Rattle.words.specs.Refusal.{packed_number, refused_by}
 use Rattle.words.proofs.Firsts.{some_from}
 use Rattle.words.proofs.Refusals.{told}
 use Rattle.words.proofs.Runs.{run_length, run_word}
+use Rattle.std.specs.declared.result.Result.TheVariants.{Ok, Err}
+use Rattle.words.specs.declared.refusal.Refusal.TheVariants.{Packed}
+use Rattle.part.specs.declared.BadRecord.{BadRecord}
 use Rattle.part.specs.Part.{greatest_end, faults_from, part_check}
 use Rattle.part.specs.Rebased.{rebased}
 use Rattle.part.specs.Answer.{figures, outcome_of}
@@ -19,7 +22,7 @@ use Rattle.slicing.specs.Rebasing.{Rebasable}
 use Rattle.slicing.specs.Slice.{starts_below}
 use Rattle.slicing.proofs.Cases.{by_check, reversed, past, uneven_start, uneven_stop, low, by_cut, accepts, accepts_none}
 use Rattle.slicing.proofs.Cut.{rebasable, part_small}
-use Rattle.slicing.proofs.slice.Goals.{Else-from-to, Else-to-ne0, In-Err, In_default, In-Ok, In-Some, In_ok-part_check}
+use Rattle.slicing.proofs.slice.Goals.{Else-from-to, Else-to-ne0, In_err-figures, In_default, In_ok-figures, In-Some, After-check_cut-checked, In_ok-part_check}
 use Rattle.slicing.proofs.slice.Goals as goal
 
 -- the part passed the check
@@ -75,23 +78,30 @@ module _ (t : In_default) where
       let p = part₂ bounds₄ in
       rebasable t.args.words.now t.args.types t.args.from t.args.to (counts₁ p) (ok_at p) t.if-to-from.false t.if-words-to.false t.if-from-ne0.false t.args.base room high_at l
 
--- the cut is refused
-bad_at : (k : In-Err) → faults_from (v₂ (goal.at.In-Err k).Else-to-ne0) k.args.types 0 (length (cut₂ (goal.at.In-Err k).Else-to-ne0) / 4) ≡ refused (packed_number k.in-Err.bad.fault) k.in-Err.bad.at
-bad_at k = sym k.check_cut.ensures ∙ ap outcome_of k.in-Err.is
+-- the cut is refused: the place is one of the cut's
+module _ (k : After-check_cut-checked) (bad : BadRecord) (is : k.check_cut-checked.result ≡ Err bad) where
+  abbrev bounds₅ : Else-to-ne0
+  bounds₅ = (goal.at.After-check_cut-checked k).Else-to-ne0
+
+  bad_at : faults_from (v₂ bounds₅) k.args.types 0 (length (cut₂ bounds₅) / 4) ≡ refused (packed_number bad.fault) bad.at
+  bad_at = sym k.check_cut-checked.ensures ∙ ap outcome_of is
+
+  small_bad : k.args.from + bad.at < 65536
+  small_bad = omega (arith, refused_place (v₂ bounds₅) k.args.types 0 (length (cut₂ bounds₅) / 4) (packed_number bad.fault) bad.at bad_at, long_at bounds₅, within_at bounds₅, k.if-to-from.false)
 
 -- the cut passed its check
-module _ (u : In-Ok) where
+module _ (u : In_ok-figures) where
   abbrev bounds₆ : Else-to-ne0
-  bounds₆ = (goal.at.In-Ok u).Else-to-ne0
+  bounds₆ = (goal.at.In_ok-figures u).Else-to-ne0
 
   abbrev greatest₆ : ℕ
-  greatest₆ = u.in-Ok.figures.greatest
+  greatest₆ = u.in_ok-figures.figures.greatest
 
-  good_at : faults_from (v₂ bounds₆) u.args.types 0 (length (cut₂ bounds₆) / 4) ≡ accepted (figures u.in-Ok.figures)
-  good_at = sym u.check_cut.ensures ∙ ap outcome_of u.in-Ok.is
+  good_at : faults_from (v₂ bounds₆) u.args.types 0 (length (cut₂ bounds₆) / 4) ≡ accepted (figures u.in_ok-figures.figures)
+  good_at = let q : u.check_cut-checked.result ≡ Ok u.in_ok-figures.figures = search rules in sym u.check_cut-checked.ensures ∙ ap outcome_of q
 
   greatest_at : greatest₆ ≡ greatest_end (v₂ bounds₆)
-  greatest_at = let h = accepted_counts (v₂ bounds₆) u.args.types 0 (length (cut₂ bounds₆) / 4) (figures u.in-Ok.figures) good_at in cc
+  greatest_at = let h = accepted_counts (v₂ bounds₆) u.args.types 0 (length (cut₂ bounds₆) / 4) (figures u.in_ok-figures.figures) good_at in cc
 
 -- there is a record, and it starts at the base or after it
 module _ (c : Else-from-to) where
@@ -116,11 +126,11 @@ module _ (c : Else-from-to) where
       omega (arith, starts₇, first, word_at (part₂ bounds₇) (c.args.from + 1))
 
   -- the base is at or before the greatest end
-  base_low : c.args.base ≤ c.in-Ok.figures.greatest
+  base_low : c.args.base ≤ c.in_ok-figures.figures.greatest
   base_low =
       let fits : 0 * 4 + 4 ≤ length (v₂ bounds₇) = omega (arith, rebased_length c.args.from 0 cut₇, some_record) in
       let same = (rebased_at c.args.from 0 cut₇ 0 (omega (arith, some_record))).end in
-      omega (arith, starts₇, rebasable₇.order 0 (omega (arith, some_record)), same, greatest_above (v₂ bounds₇) 0 fits, greatest_at (goal.at.Else-from-to c).In-Ok)
+      omega (arith, starts₇, rebasable₇.order 0 (omega (arith, some_record)), same, greatest_above (v₂ bounds₇) 0 fits, greatest_at (goal.at.Else-from-to c).In_ok-figures)
 
 pub returns-in_err-part_check : goal.returns-in_err-part_check
 returns-in_err-part_check c =
@@ -173,22 +183,23 @@ returns-in-Some c =
 pub overflow_cast-from : goal.overflow_cast-from
 overflow_cast-from c = omega (arith, within_at (goal.at.overflow_cast-from c).Else-to-ne0, c.if-to-from.false)
 
-pub check_cut-requires : goal.check_cut-requires
-check_cut-requires c = omega (arith, long_at (goal.at.check_cut-requires c).Else-to-ne0, c.if-from-ne0.false, c.if-to-ne0.false, c.if-to-from.false)
+pub check_cut-checked-requires : goal.check_cut-checked-requires
+check_cut-checked-requires c = omega (arith, long_at (goal.at.check_cut-checked-requires c).Else-to-ne0, c.if-from-ne0.false, c.if-to-ne0.false, c.if-to-from.false)
 
-pub overflow_add-result-in-Err : goal.overflow_add-result-in-Err
-overflow_add-result-in-Err c =
-    let d = goal.at.overflow_add-result-in-Err c in
-    let cut = cut₂ d.Else-to-ne0 in
-    omega (arith, refused_place (v₂ d.Else-to-ne0) c.args.types 0 (length cut / 4) (packed_number c.in-Err.bad.fault) c.in-Err.bad.at (bad_at d.In-Err), long_at d.Else-to-ne0, within_at d.Else-to-ne0, c.if-to-from.false)
+pub map_err-requires : goal.map_err-requires
+map_err-requires c =
+    let small = small_bad (goal.at.map_err-requires c).After-check_cut-checked in
+    search (rules, small)
 
-pub returns-in-Err : goal.returns-in-Err
-returns-in-Err c =
+pub returns-in_err-figures : goal.returns-in_err-figures
+returns-in_err-figures c =
     let a = c.args in
-    let d = goal.at.returns-in-Err c in
+    let d = goal.at.returns-in_err-figures c in
     let e = d.In_ok-part_check in
-    by_cut a.words.now a.types a.from a.to a.base a.out.now (counts₁ e) (ok_at e) c.if-to-from.false c.if-words-to.false c.if-from-ne0.false c.if-to-ne0.false
-    (high_at d.In_default) (packed_number c.in-Err.bad.fault) c.in-Err.bad.at (bad_at d.In-Err)
+    let q : (bad : BadRecord) × (c.check_cut-checked.result ≡ Err bad) × (c.in_err-figures.field-0.0 ≡ Packed bad.fault (a.from + bad.at)) = search rules in
+    let p = err_from_is_err_and c.from_residual-in_err-figures.result c.from_residual-in_err-figures.ensures.1 in
+    rw (p.1, p.2, q.2) (by_cut a.words.now a.types a.from a.to a.base a.out.now (counts₁ e) (ok_at e) c.if-to-from.false c.if-words-to.false c.if-from-ne0.false c.if-to-ne0.false
+    (high_at d.In_default) (packed_number q.0.fault) q.0.at (bad_at d.After-check_cut-checked q.0 q.1))
 
 pub returns-then-from-to : goal.returns-then-from-to
 returns-then-from-to c =
@@ -196,7 +207,7 @@ returns-then-from-to c =
     let d = goal.at.returns-then-from-to c in
     let e = d.In_ok-part_check in
     accepts_none a.words.now a.types a.from a.to a.base a.out.now (counts₁ e) (ok_at e) c.if-to-from.false c.if-words-to.false c.if-from-ne0.false c.if-to-ne0.false
-    (high_at d.In_default) (figures c.in-Ok.figures) (good_at d.In-Ok) c.if-out-to.false c.if-from-to.true
+    (high_at d.In_default) (figures c.in_ok-figures.figures) (good_at d.In_ok-figures) c.if-out-to.false c.if-from-to.true
 
 pub overflow_cast-from-2 : goal.overflow_cast-from-2
 overflow_cast-from-2 c = omega (arith, within_at (goal.at.overflow_cast-from-2 c).Else-to-ne0, c.if-to-from.false)
@@ -219,5 +230,5 @@ returns c =
     let d = goal.at.returns c in
     let e = d.In_ok-part_check in
     accepts a.words.now a.types a.from a.to a.base a.out.now (counts₁ e) (ok_at e) c.if-to-from.false c.if-words-to.false c.if-from-ne0.false c.if-to-ne0.false
-    (high_at d.In_default) (figures c.in-Ok.figures) (good_at d.In-Ok) c.if-out-to.false c.in-Ok.figures.greatest c.rebase.new.out
-    (greatest_at d.In-Ok) c.rebase.ensures
+    (high_at d.In_default) (figures c.in_ok-figures.figures) (good_at d.In_ok-figures) c.if-out-to.false c.in_ok-figures.figures.greatest c.rebase.new.out
+    (greatest_at d.In_ok-figures) c.rebase.ensures
