@@ -1,5 +1,5 @@
 // A tree that was built, shown: its outline, its tables and its listing.
-ghost use Rattle.std.specs.Prelude.{◌*◌, ◌≤◌, length};
+ghost use Rattle.std.specs.Prelude.{◌≤◌, length};
 
 use crate::options::Options;
 use crate::outline::Outline;

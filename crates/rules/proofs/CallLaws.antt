@@ -1,6 +1,6 @@
 -- The tree calls, refusal by refusal in their order; and that a run is refused nowhere: what build writes of an accepted list goes
 -- through listing and through materialise, and what that writes through listing, where enough is lent. Assumes nothing.
-use mathlib.Core.Path.{◌≡◌, refl}
+use mathlib.Core.Path.{◌≡◌, refl, sym, ap, ◌∙◌}
 use mathlib.Core.Bool.{Bool, true, false, cond}
 use mathlib.Core.List.{List, [], ◌∷◌}
 use Rattle.std.specs.Prelude.{Option, None, Some}
@@ -9,7 +9,7 @@ use native.Mathlib.Omega.{arith}
 use borrow.Author.Tests.{le-ltb, lt-ltb}
 use lib.Dec.{ltb}
 use lib.ListN.{length}
-use Rattle.words.specs.Outcome.{Outcome, accepted, refused, settled}
+use Rattle.words.specs.Outcome.{Outcome, accepted, refused, settled, Result, number_of, place_of}
 use Rattle.words.specs.Words.{front}
 use Rattle.words.specs.Refusal.{refused_by}
 use Rattle.words.specs.declared.refusal.Refusal.{Refusal}
@@ -109,20 +109,27 @@ module _ (T : ℕ) (cs ws : List ℕ) (work : ℕ) (out : List ℕ) (number plac
 
 -- the same of a refusal as the code has it
 module _ (T : ℕ) (cs ws : List ℕ) (work : ℕ) (out : List ℕ) (r : Refusal) where
+  abbrev number : ℕ
+  number = number_of (refused_by r)
+
+  abbrev place : ℕ
+  place = place_of (refused_by r)
+
+  -- what a call hands back with the refusal
+  back : (outputs : List (List ℕ)) → ◌≡◌ {A = Result} (record { outcome = refused number place; outputs = outputs }) (record { outcome = refused_by r; outputs = outputs })
+  back outputs = ap {B = Result} (λ (o : Outcome). record { outcome = o; outputs = outputs }) (sym (told r))
+
   pub materialise_refused_by : ((o : Outcome) → unless_bad T 0 cs ws work o ≡ refused_by r)
       → materialise_call T cs ws work out ≡ record { outcome = refused_by r; outputs = out ∷ [] }
-  unfolding materialise_call
-  materialise_refused_by h = rw (h (result_room (nodes (materialise (handed_in cs ws))) 0 (length out) 0), told r)
+  materialise_refused_by h = materialise_refused T cs ws work out number place (λ o. h o ∙ told r) ∙ back (out ∷ [])
 
   pub list_refused_by : (F S : ℕ) → ((o : Outcome) → unless_bad T S cs ws work o ≡ refused_by r)
       → list_call T F S cs ws work out ≡ record { outcome = refused_by r; outputs = out ∷ [] }
-  unfolding list_call
-  list_refused_by F S h = rw (h (lines_room (length (list_cells F S cs ws)) (length out)), told r)
+  list_refused_by F S h = list_refused T cs ws work out number place F S (λ o. h o ∙ told r) ∙ back (out ∷ [])
 
   pub balance_refused_by : (f : Bool) (words : List ℕ) → ((o : Outcome) → unless_bad T 0 cs ws work o ≡ refused_by r)
       → balance_call T f cs ws work out words ≡ record { outcome = refused_by r; outputs = out ∷ words ∷ [] }
-  unfolding balance_call
-  balance_refused_by f words h = rw (h (balance_room f cs ws (length out) (length words)), told r)
+  balance_refused_by f words h = balance_refused T cs ws work out number place f words (λ o. h o ∙ told r) ∙ back (out ∷ words ∷ [])
 
 -- a call on accepted cells with what it asks lent
 module _ (T : ℕ) (types : T ≤ 65536) (cs ws : List ℕ) (work : ℕ) (out : List ℕ) where

@@ -4,5 +4,4 @@ pub mod Cases
 pub mod Constants
 pub mod Near
 pub mod Found
-pub mod Steps
 pub mod Forward

@@ -15,7 +15,7 @@ use Rattle.search.specs.Way.{Linked}
 use Rattle.search.specs.declared.Way.{Way}
 use denote.Ref.{Bor}
 
-way_step : (w : List ℕ) (f at to : ℕ) → at < to → way w (suc f) at to ≡ at ∷ way w f (get_or w (at + 3) 0) to
+pub way_step : (w : List ℕ) (f at to : ℕ) → at < to → way w (suc f) at to ≡ at ∷ way w f (get_or w (at + 3) 0) to
 unfolding way
 way_step w f at to l = rw (lt-ltb _ _ l)
 
@@ -48,10 +48,10 @@ Readable w [] = ⊤
 Readable w (a ∷ l) = (a + 4 ≤ length w) × Readable w l
 
 -- `f` steps reach from `at` to the second bound
-record Ahead (w : List ℕ) (to at f : ℕ) : Type 0 where
-  whole : at % 4 ≡ 0
-  inside : at ≤ length w
-  enough : to ≤ at + f
+pub record Ahead (w : List ℕ) (to at f : ℕ) : Type 0 where
+  pub whole : at % 4 ≡ 0
+  pub inside : at ≤ length w
+  pub enough : to ≤ at + f
 
 module _ (w : List ℕ) (from to : ℕ) (linked : Linked w from to) where
   read : (at : ℕ) → at < to → at % 4 ≡ 0 → at + 4 ≤ length w
