@@ -1,11 +1,11 @@
-// Internal: the build reads the record of a tree by `last_record`.
+// Internal: the build reads the record of a tree through it.
 // The reader: a record list with a place in it, read from the last record back. A place is the number of records before it.
 #![tactic(auto)]
 
-ghost use Rattle.std.specs.Prelude.{◌≡◌, ◌*◌, ◌/◌, ◌≤◌, length};
-ghost use Rattle.std.specs.Iterator.{YieldsFirst, item_count};
+ghost use Rattle.std.specs.Prelude.{◌≡◌, ◌/◌, length};
+ghost use Rattle.std.specs.Iterator.{item_count};
 ghost use Rattle.words.specs.Words.{record_width};
-ghost use Rattle.reader.specs.Before.{Readable, record_before, records_before};
+ghost use Rattle.reader.specs.Before.{Readable, StepsBack, record_before, records_before};
 
 use records::record_at;
 use words::RECORD_WIDTH;
@@ -34,22 +34,38 @@ impl<'a> Reader<'a> {
             at: records.len() / RECORD_WIDTH,
         }
     }
+
+    // The record before the place.
+    pub fn read(self) -> Record
+        requires { Readable self.records.now self.at }
+        ensures { result ≡ record_before self.entry.records.now self.entry.at }
+    {
+        let Reader { records, at } = self;
+        let before = at - 1;
+        Record {
+            own: record_at(records, before),
+            before,
+        }
+    }
 }
 
 impl<'a> Iterator for Reader<'a> {
     type Item = Record;
 
-    ghost can_next = { λ s. s.at * record_width ≤ length s.records.now };
-
-    ghost next_gives = { YieldsFirst (λ s. records_before s.records.now s.at) };
+    ghost next_gives = { StepsBack };
 
     ghost remaining = { item_count (λ s. records_before s.records.now s.at) };
 
+    // One record back. Before a place behind the list stands none.
     fn next(&mut self) -> Option<Record> {
         if self.at == 0 {
             return None;
         }
-        let last = last_record(self.records, self.at);
+        if self.records.len() / RECORD_WIDTH < self.at {
+            self.at -= 1;
+            return None;
+        }
+        let last = self.read();
         self.at = last.before;
         Some(last)
     }
@@ -60,9 +76,5 @@ pub fn last_record(records: &[u32], p: usize) -> Record
     requires { Readable records.now p }
     ensures { result ≡ record_before records.now p }
 {
-    let before = p - 1;
-    Record {
-        own: record_at(records, before),
-        before,
-    }
+    Reader { records, at: p }.read()
 }
