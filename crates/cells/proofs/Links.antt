@@ -128,6 +128,7 @@ put_some held t limit x after within base low ne room q = record {
         size = omega (arith, size);
         held_are = subst (λ y. Held (put4 held (y * 4) x after within base) (d ∷ ds)) (sym size) (held_put held d ds within r (sym e) s.held_are);
         rising = record { under = l.under; older = rising_less limit low ds l.less s.rising };
+        most = omega (arith, l.less, s.most);
         clash = λ k. ⊎_elim (λ a. inr (subst (λ y. Clash y ds) (sym a) (s.clash (omega (arith, a))))) (λ b. inl (b.0, b.1)) l.clash;
       });
   above = λ n c ds s o k.

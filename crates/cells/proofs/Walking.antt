@@ -201,7 +201,7 @@ module _ (T : ℕ) (ws : List ℕ) (n S : ℕ) (cs : List ℕ) where
   pub walk_start : (held held' : List ℕ) (t limit : ℕ) → Put held held' 0 (n + 1) t limit 1 0 4294967295 S → Walk held' 0 0 t limit
   unfolding width
   walk_start held held' t limit p =
-      let empty : Stack held n 0 (n + 1) [] = record { size = refl; held_are = tt; rising = tt; clash = λ h. absurd (omega arith) } in
+      let empty : Stack held n 0 (n + 1) [] = record { size = refl; held_are = tt; rising = tt; most = omega arith; clash = λ h. absurd (omega arith) } in
       let s = subst (Stack held' n t limit) due_top (p.stack n [] None refl empty) in
       record {
         ds = top_named S ∷ [];
@@ -421,6 +421,7 @@ module _ (T : ℕ) (ws : List ℕ) (n S : ℕ) (cs : List ℕ) where
                   size = l.size;
                   held_are = l.held_older;
                   rising = l.rising.older;
+                  most = s.stack.most;
                   clash = λ h. go (subst (Clash limit) l.all (s.stack.clash h));
                 }
               where

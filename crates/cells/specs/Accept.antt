@@ -1,4 +1,5 @@
--- What `accept` promises: the first three tests of the calls that take a tree, by the definition `unless_bad` of crate `rules`.
+-- What `accept` promises: the first three tests of the calls that take a tree, by the definition `unless_bad` of crate `rules`. Only internal
+-- functions cite this.
 use Rattle.std.specs.Prelude.{◌≡◌, List, ℕ, ◌+◌, ◌*◌, ◌≤◌, None}
 use Rattle.std.specs.declared.result.Result.{Result}
 use Rattle.std.specs.declared.result.Result.TheVariants.{Ok, Err}

@@ -50,6 +50,7 @@ pub record Stack (held : List ℕ) (n top limit : ℕ) (ds : List Named) : Type 
   pub size : top ≡ length ds
   pub held_are : Held held ds
   pub rising : Rising limit ds
+  pub most : limit ≤ n + 1
   pub clash : limit ≤ n → Clash limit ds
 
 -- the cell that a link x names, if it names one

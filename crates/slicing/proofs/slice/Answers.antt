@@ -115,7 +115,7 @@ module _ (c : Else-from-to) where
   some_record = omega (arith, c.if-from-to.false, c.if-to-from.false, c.if-from-ne0.false, c.if-to-ne0.false, long_at bounds₇)
 
   rebasable₇ : Rebasable cut₇ c.args.from c.args.base (length c.args.out.now)
-  rebasable₇ = rebasable_at (goal.at.Else-from-to c).In_default (length c.args.out.now) c.if-out-to.false
+  rebasable₇ = rebasable_at (goal.at.Else-from-to c).In_default (length c.args.out.now) (omega arith)
 
   starts₇ : c.args.base ≤ start_of cut₇ 0
   starts₇ = rebasable₇.starts 0 (omega (arith, some_record))
@@ -207,7 +207,7 @@ returns-then-from-to c =
     let d = goal.at.returns-then-from-to c in
     let e = d.In_ok-part_check in
     accepts_none a.words.now a.types a.from a.to a.base a.out.now (counts₁ e) (ok_at e) c.if-to-from.false c.if-words-to.false c.if-from-ne0.false c.if-to-ne0.false
-    (high_at d.In_default) (figures c.in_ok-figures.figures) (good_at d.In_ok-figures) c.if-out-to.false c.if-from-to.true
+    (high_at d.In_default) (figures c.in_ok-figures.figures) (good_at d.In_ok-figures) (omega arith) c.if-from-to.true
 
 pub overflow_cast-from-2 : goal.overflow_cast-from-2
 overflow_cast-from-2 c = omega (arith, within_at (goal.at.overflow_cast-from-2 c).Else-to-ne0, c.if-to-from.false)
@@ -230,5 +230,5 @@ returns c =
     let d = goal.at.returns c in
     let e = d.In_ok-part_check in
     accepts a.words.now a.types a.from a.to a.base a.out.now (counts₁ e) (ok_at e) c.if-to-from.false c.if-words-to.false c.if-from-ne0.false c.if-to-ne0.false
-    (high_at d.In_default) (figures c.in_ok-figures.figures) (good_at d.In_ok-figures) c.if-out-to.false c.in_ok-figures.figures.greatest c.rebase.new.out
+    (high_at d.In_default) (figures c.in_ok-figures.figures) (good_at d.In_ok-figures) (omega arith) c.in_ok-figures.figures.greatest c.rebase.new.out
     (greatest_at d.In_ok-figures) c.rebase.ensures
