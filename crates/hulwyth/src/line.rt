@@ -59,5 +59,8 @@ pub fn numbers<const N: usize>(mut words: Words<'_>) -> Result<[u32; N], Problem
 
 // Is it a record's line?
 pub fn is_record(line: &[u8]) -> bool {
-    matches!(Words::of(line).next(), Some([b'0'..=b'9', ..]))
+    matches!(
+        line.iter().find(|byte| !is_blank(**byte)),
+        Some(b'0'..=b'9')
+    )
 }

@@ -168,12 +168,16 @@ fn balances(rt: &(impl Print + AllocGlobal), work: &mut [u32]) -> io::Result<()>
     Ok(())
 }
 
-fn main(rt: HostRuntime) -> io::Result<()> {
+fn show_all(rt: &(impl Print + AllocGlobal)) -> io::Result<()> {
     let mut work = calls::room(rt.alloc(), WORK)?;
-    small_lists(&rt, &mut work)?;
-    early(&rt, &mut work)?;
-    rooms(&rt)?;
-    siblings(&rt, &mut work)?;
-    chains(&rt, &mut work)?;
-    balances(&rt, &mut work)
+    small_lists(rt, &mut work)?;
+    early(rt, &mut work)?;
+    rooms(rt)?;
+    siblings(rt, &mut work)?;
+    chains(rt, &mut work)?;
+    balances(rt, &mut work)
+}
+
+fn main(rt: HostRuntime) -> io::Result<()> {
+    text::told(show_all(&rt))
 }

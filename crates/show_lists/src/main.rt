@@ -151,10 +151,15 @@ fn refused_ranges(rt: &impl Print) -> io::Result<()> {
     )
 }
 
-fn main(rt: HostRuntime) -> io::Result<()> {
-    accepted(&rt)?;
-    refused_calls(&rt)?;
-    refused_records(&rt)?;
-    refused_spans(&rt)?;
-    refused_ranges(&rt)
+fn show_all(rt: &impl Print) -> io::Result<()> {
+    accepted(rt)?;
+    refused_calls(rt)?;
+    refused_records(rt)?;
+    refused_spans(rt)?;
+    refused_ranges(rt)
+}
+
+fn main(rt: HostRuntime) {
+    // A failed write is not told.
+    let _ = show_all(&rt);
 }

@@ -80,25 +80,30 @@ fn show_search(rt: &impl Print, to: usize, position: u32) -> io::Result<()> {
     }
 }
 
-fn main(rt: HostRuntime) -> io::Result<()> {
+fn show_all(rt: &impl Print) -> io::Result<()> {
     println!(rt; "The message: <trade><firm>Smith &amp; Sons</firm><firm>Baker</firm></trade>")?;
     println!(rt; "Its packed part, a record a line, with id, start, end and end index:")?;
-    text::print_rows(&rt, &MESSAGE, RECORD_WIDTH)?;
+    text::print_rows(rt, &MESSAGE, RECORD_WIDTH)?;
     println!(rt;
         "\nIs the part sound? Yes; without its last record it is not, since the message ends behind that."
     )?;
-    show_check(&rt, &MESSAGE)?;
-    show_check(&rt, &MESSAGE[..12])?;
+    show_check(rt, &MESSAGE)?;
+    show_check(rt, &MESSAGE[..12])?;
     show_greatest_end(&rt)?;
     println!(rt;
         "\nThe names alone, counted from the start of the first; no record may start before the base."
     )?;
     for base in [13, 20] {
-        show_slice(&rt, base)?;
+        show_slice(rt, base)?;
     }
     println!(rt; "\nWhich name is next? The bounds must be met on the way from name to name.")?;
     for (to, position) in [(16, 9), (16, 29), (16, 47), (8, 9)] {
-        show_search(&rt, to, position)?;
+        show_search(rt, to, position)?;
     }
     Ok(())
+}
+
+fn main(rt: HostRuntime) {
+    // A failed write is not told.
+    let _ = show_all(&rt);
 }

@@ -23,8 +23,13 @@ fn show_list(rt: &impl Print, list: &[u32]) -> io::Result<()> {
     Ok(())
 }
 
-fn main(rt: HostRuntime) -> io::Result<()> {
-    show_list(&rt, &P)?;
-    show_list(&rt, &GROUPS)?;
-    show_list(&rt, &[])
+fn show_lists(rt: &impl Print) -> io::Result<()> {
+    show_list(rt, &P)?;
+    show_list(rt, &GROUPS)?;
+    show_list(rt, &[])
+}
+
+fn main(rt: HostRuntime) {
+    // A failed write is not told.
+    let _ = show_lists(&rt);
 }

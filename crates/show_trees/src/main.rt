@@ -18,7 +18,7 @@ const THREE: usize = 3 * CELL_WIDTH;
 
 const LINES: usize = 3 * LINE_WIDTH;
 
-fn main(rt: HostRuntime) -> io::Result<()> {
+fn show_all(rt: &(impl Print + AllocGlobal)) -> io::Result<()> {
     let p = Tree {
         types: 4,
         first_repeat: 4,
@@ -27,9 +27,9 @@ fn main(rt: HostRuntime) -> io::Result<()> {
         words: &[3, 0, 6, 12, 1, 0, 2, 8, 2, 3, 5, 12],
     };
     println!(rt; "P with b 1,024")?;
-    p.list_both(&rt, FOUR, LINES)?;
+    p.list_both(rt, FOUR, LINES)?;
     println!(rt; "P with b 1,024, from 10")?;
-    Tree { start: 10, ..p }.list_both(&rt, FOUR, LINES)?;
+    Tree { start: 10, ..p }.list_both(rt, FOUR, LINES)?;
     println!(rt; "P with b 5")?;
     Tree {
         cells: &[
@@ -38,7 +38,7 @@ fn main(rt: HostRuntime) -> io::Result<()> {
         words: &[1, 0, 2, 4, 2, 3, 5, 8],
         ..p
     }
-    .list_both(&rt, FOUR, LINES)?;
+    .list_both(rt, FOUR, LINES)?;
     println!(rt; "P with b 1, from 10")?;
     Tree {
         start: 10,
@@ -48,15 +48,19 @@ fn main(rt: HostRuntime) -> io::Result<()> {
         words: &[],
         ..p
     }
-    .list_both(&rt, FOUR, LINES)?;
+    .list_both(rt, FOUR, LINES)?;
     println!(rt; "P with b 1,024, its part one word too long")?;
     Tree {
         cells: &[1, 0, 0, 6, 2, 1, 0, 2, 0, 0, 6, 0, 11, 0],
         ..p
     }
-    .list_both(&rt, FOUR, LINES)?;
+    .list_both(rt, FOUR, LINES)?;
     println!(rt; "P with b 1,024, room for three cells")?;
-    p.list_both(&rt, THREE, LINES)?;
-    limits::run(&rt, p)?;
-    sets::run(&rt)
+    p.list_both(rt, THREE, LINES)?;
+    limits::run(rt, p)?;
+    sets::run(rt)
+}
+
+fn main(rt: HostRuntime) -> io::Result<()> {
+    text::told(show_all(&rt))
 }

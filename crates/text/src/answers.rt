@@ -1,5 +1,7 @@
 // Answers line after line.
-ghost use Rattle.std.specs.Prelude.{IfOk, IsErrOf, Any, ◌≡◌};
+ghost use Rattle.std.specs.Prelude.{IfOk, IfErr, IsErrOf, Any, ◌≡◌};
+ghost use Rattle.std.specs.IoError.{error_kind};
+ghost use Rattle.std.specs.declared.io.ErrorKind.{ErrorKind};
 ghost use Rattle.text.specs.Narrow.{BecomeItems, IsRefused};
 ghost use Rattle.text.specs.declared.answers.Fault.TheVariants.{BadLine, OutOfMemory};
 
@@ -10,7 +12,7 @@ use std::num::TryFromIntError;
 use std::{fmt, io};
 
 // How many bytes of the input are read.
-const MOST_BYTES: u64 = 1048576;
+const MOST_BYTES: usize = 1048576;
 
 // Why a line is given no answer.
 #[derive(Clone, Copy, Debug, PartialEq, Eq)]
@@ -53,37 +55,69 @@ pub fn narrow<T: TryFrom<u64, Error = TryFromIntError> + Drop>(
     ensures ok { IfOk result (λ narrowed. BecomeItems T.try_from_gives numbers.now narrowed.items) }
     ensures bad_line { IsErrOf result Fault.BadLine → Any (IsRefused T.try_from_gives) numbers.now }
 {
-    let mut narrowed = Vec::new(alloc);
+    let mut narrowed = Vec::with_capacity(alloc, numbers.len())?;
     for number in numbers {
         narrowed.push(T::try_from(*number)?)?;
     }
     Ok(narrowed)
 }
 
-// Reads the input, and answers each line by its numbers, of which there may be so many; what has no answer is a bad line.
+// What a program tells at its end: that an allocation failed. A failed write is not told.
+pub fn told(done: io::Result<()>) -> io::Result<()>
+    ensures memory { IfErr done (λ fault. error_kind fault ≡ ErrorKind.OutOfMemory → result ≡ done) }
+    ensures alone { IfErr result (λ fault. (done ≡ Err fault) × (error_kind fault ≡ ErrorKind.OutOfMemory)) }
+{
+    match done {
+        Err(fault) if fault.kind() == io::ErrorKind::OutOfMemory => Err(fault),
+        _ => Ok(()),
+    }
+}
+
+// What prints, as a writer that goes on where a write fails: what was to be written then is dropped, and not told.
+#[derive(Drop)]
+struct Untold<'a, P> {
+    to: &'a P,
+}
+
+impl<P: Print> Write for Untold<'_, P> {
+    fn write(&mut self, bytes: &[u8]) -> io::Result<usize> {
+        let _ = io::writer(self.to).write_all(bytes);
+        Ok(bytes.len())
+    }
+
+    fn flush(&mut self) -> io::Result<()> {
+        Ok(())
+    }
+}
+
+// Reads the input, and answers each line by its numbers, of which there may be so many; what has no answer is a bad line. What was
+// read before a failure is answered.
 pub fn replay<
     R: Input + Print + AllocGlobal,
     A: fmt::Display + Drop,
     F: FnMut(&[u64]) -> Result<A, Fault>,
 >(rt: &R, most: usize, mut answer: F) -> io::Result<()>
     requires { F.IsAlwaysCallable answer }
+    ensures { IfErr result (λ fault. error_kind fault ≡ ErrorKind.OutOfMemory) }
 {
-    let mut input = Vec::new(rt.alloc());
-    rt.reader().take(MOST_BYTES).read_to_end(&mut input)?;
+    // Room for all of it at once, so that reading asks for no more.
+    let mut input = Vec::with_capacity(rt.alloc(), MOST_BYTES + 1)?;
+    let _ = rt.reader().take(MOST_BYTES as u64).read_to_end(&mut input);
     let mut room = vec![in rt.alloc(); 0; most]?;
-    let mut out = BufWriter::new(rt.alloc(), io::writer(rt))?;
+    let mut out = BufWriter::new(rt.alloc(), Untold { to: rt })?;
     for line in lines(&input) {
         let answered = match numbers(line, &mut room) {
             Some(given) => answer(given),
             None => Err(Fault::BadLine),
         };
-        match answered {
-            Ok(answer) => writeln!(out, "{answer}")?,
-            Err(Fault::BadLine) => writeln!(out, "bad line")?,
+        let written = match answered {
+            Ok(answer) => writeln!(out, "{answer}"),
+            Err(Fault::BadLine) => writeln!(out, "bad line"),
             Err(Fault::OutOfMemory) => return Err(AllocError.into()),
-        }
+        };
+        told(written)?;
     }
-    out.flush()
+    told(out.flush())
 }
 
 #[cfg(test)]

@@ -5,13 +5,13 @@
 mod answers;
 mod rows;
 
-ghost use Rattle.std.specs.Prelude.{◌≡◌, ◌≢◌, ℕ, ◌<◌, ◌≤◌, ◌↔◌, length, min, slice_index, EachIndex, IfSome, IsTrue, MatchOption};
+ghost use Rattle.std.specs.Prelude.{◌≡◌, ◌≢◌, ℕ, ◌+◌, ◌*◌, ◌<◌, ◌≤◌, ◌↔◌, length, min, slice_index, EachIndex, IfSome, IsTrue, MatchOption};
 ghost use Rattle.std.specs.Int.{IsInRange};
 ghost use Rattle.text.specs.Lines.{IsLine};
 ghost use Rattle.std.specs.Str.Parse.{IsNumeral, digits_value};
 ghost use Rattle.std.specs.Iterator.{at_most};
 
-pub use answers::{Fault, narrow, replay};
+pub use answers::{Fault, narrow, replay, told};
 pub use rows::{Spaced, print_rows};
 
 // A number of so many or more is kept as this one, so that no number of digits is too long to read.
@@ -38,11 +38,11 @@ pub fn number(word: &[u8]) -> Option<u64>
     if !is_numeral(word) {
         return None;
     }
-    let Ok(digits) = str::from_utf8(word) else {
-        return None;
-    };
-    // Of digits alone, only a number above 64 bits is not parsed.
-    Some(digits.parse::<u64>().unwrap_or(MOST).min(MOST))
+    let mut value: u64 = 0;
+    for byte in word {
+        value = (value * 10 + u64::from(byte - b'0')).min(MOST);
+    }
+    Some(value)
 }
 
 // The number that a word spells, in decimal digits and with a '-' before them where it is negative, in one word: a
