@@ -7,7 +7,7 @@ use crate::output::Page;
 use crate::packed::{Part, print_indent, print_part};
 use std::fmt;
 use std::fmt::Write;
-use tree::{CELL_WIDTH, Kind};
+use tree::{CELL_WIDTH, COUNT, FIRST, ID, KIND, Kind, LENGTH, NEXT, POSITION};
 
 type Cell = [u32; CELL_WIDTH];
 
@@ -32,13 +32,12 @@ fn note(notes: &mut [Note], x: u32, noted: Note) {
 
 // Notes what the next sibling and the first child of a cell need.
 fn note_links(notes: &mut [Note], cell: &Cell, [base, depth]: Note) {
-    let [kind, _, position, _, first, _, next] = *cell;
-    note(notes, next, [base, depth]);
-    if !Kind::Part.is(kind) {
+    note(notes, cell[NEXT], [base, depth]);
+    if !Kind::Part.is(cell[KIND]) {
         note(
             notes,
-            first,
-            [base.wrapping_add(position), depth.wrapping_add(1)],
+            cell[FIRST],
+            [base.wrapping_add(cell[POSITION]), depth.wrapping_add(1)],
         );
     }
 }
@@ -60,17 +59,21 @@ impl Outline<'_> {
         requires { length self.now.words.now ≤ length ends.old }
     {
         let [base, depth] = noted;
-        let [kind, id, position, long, first, count, _] = *cell;
-        let start = base.wrapping_add(position);
+        let (kind, id) = (cell[KIND], cell[ID]);
+        let start = base.wrapping_add(cell[POSITION]);
         print_indent(page, depth as usize);
         self.print_label(page, kind, id)?;
-        write!(page, " {start}..{}", u64::from(start) + u64::from(long))?;
+        write!(
+            page,
+            " {start}..{}",
+            u64::from(start) + u64::from(cell[LENGTH])
+        )?;
         if Kind::Tree.is(kind) && self.first_repeat <= id {
             page.put(b" repeat");
         }
         page.put(b"\n");
         if Kind::Part.is(kind) {
-            let (first, count) = (first as usize, count as usize);
+            let (first, count) = (cell[FIRST] as usize, cell[COUNT] as usize);
             if let Some(words) = self.words.get(first..first + count) {
                 print_part(
                     page,
