@@ -34,9 +34,9 @@
  * What the calls take of it, the parameters included, was measured on x86-64 on the worst inputs known; it is not proved.
  * tests/c/stack measures it again:
  *
- *   hulwyth_build         1.1 MB  1,048,967 bytes where 16,383 records are packed, each in the next; no more can be
- *   the part calls        40 KB   33,095 bytes for 3 records as for 16,383
- *   the tree calls        40 KB   34,375 bytes for hulwyth_balance on 1,000,000 siblings, 33,263 for the others, with and without parts
+ *   hulwyth_build         1.1 MB  1,048,999 bytes where 16,383 records are packed, each in the next; no more can be
+ *   the part calls        40 KB   33,079 bytes for 3 records as for 16,383
+ *   the tree calls        40 KB   34,295 bytes for hulwyth_balance on 1,000,000 siblings, 33,287 for the others, with and without parts
  *   hulwyth_check         1 KB
  *
  * The first call of a part or tree takes 3 KB more, if memset is bound only then.
