@@ -89,7 +89,7 @@ fn show_all(rt: &impl Print) -> io::Result<()> {
     )?;
     show_check(rt, &MESSAGE)?;
     show_check(rt, &MESSAGE[..12])?;
-    show_greatest_end(&rt)?;
+    show_greatest_end(rt)?;
     println!(rt;
         "\nThe names alone, counted from the start of the first; no record may start before the base."
     )?;

@@ -5,7 +5,7 @@
 mod answers;
 mod rows;
 
-ghost use Rattle.std.specs.Prelude.{◌≡◌, ◌≢◌, ℕ, ◌+◌, ◌*◌, ◌<◌, ◌≤◌, ◌↔◌, length, min, slice_index, EachIndex, IfSome, IsTrue, MatchOption};
+ghost use Rattle.std.specs.Prelude.{◌≡◌, ◌≢◌, ℕ, ◌<◌, ◌≤◌, ◌↔◌, length, min, slice_index, EachIndex, IfSome, IsTrue, MatchOption};
 ghost use Rattle.std.specs.Int.{IsInRange};
 ghost use Rattle.text.specs.Lines.{IsLine};
 ghost use Rattle.std.specs.Str.Parse.{IsNumeral, digits_value};
